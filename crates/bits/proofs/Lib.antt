@@ -1,0 +1,4 @@
+pub mod Strings
+pub mod Bytes
+pub mod Packing
+pub mod Differences

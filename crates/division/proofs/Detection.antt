@@ -1,0 +1,133 @@
+-- Which differences of two strings leave no remainder. Assumes nothing.
+use mathlib.Core.Path.{_≡_, refl, sym, ap, ap₂, _∙_}
+use mathlib.Core.Logic.{_↔_}
+use Prim.Native.Nat.{ℕ, zero, suc, _+_, _-_, _%_, _≤_, _<_}
+use native.Mathlib.Omega.{arith}
+use mathlib.Core.Bool.{Bool, true, false, true≢false}
+use mathlib.Core.List.{List, [], _∷_, _++_, append-cancel-left}
+use lib.ListN.{length, length-append, length-replicate}
+use Rattle.bits.specs.Strings.{add, xor, zeros, parity, weight}
+use Rattle.bits.specs.Bytes.{digit}
+use Rattle.bits.specs.Differences.{differing, Burst}
+use Rattle.bits.proofs.Strings.{length-zeros, length-xor, xor-zeros, xor-self, zeros-append, equal-of-xor, add-comm, add-assoc, add-left-comm, parity-snoc, parity-xor, parity-zeros, weight-parity}
+use Rattle.bits.proofs.Differences.{Window, burst-window, burst-widen, TwoSet, two-differing, one-differing, length-differing, equal-of-differing}
+use Rattle.division.specs.Division.{step, divide, remainder, Divides, power, PowerIsOne, constantTerm}
+use Rattle.division.specs.Laws.{Undetected, EvenTerms, OrderAbove}
+use Rattle.division.proofs.Linear.{length-step, length-remainder, remainder-xor}
+use Rattle.division.proofs.Zeros.{leading, trailing, remainder-short}
+
+-- ---- two strings of one length have one remainder exactly where their difference leaves none
+
+pub difference : (p a b : List Bool) → length a ≡ length b → (remainder p a ≡ remainder p b) ↔ Divides p (xor a b)
+difference p a b h = (
+  λ e. remainder-xor p a b h ∙ ap (λ z. xor z (remainder p b)) e ∙ xor-self (remainder p b) ∙ ap zeros (length-remainder p b),
+  λ e. equal-of-xor (remainder p a) (remainder p b) (length-remainder p a ∙ sym (length-remainder p b))
+      (sym (remainder-xor p a b h) ∙ e ∙ ap zeros (sym (length-remainder p b))),
+)
+
+divides : (p a b : List Bool) → Undetected p a b → Divides p (xor a b)
+divides p a b u = difference p a b (u .one-length) .0 (u .one-remainder)
+
+-- ---- bursts
+
+-- at most as many bits as the register holds, zeros around them, are no multiple of the divisor unless they are zero
+divides-window : (p b : List Bool) (i j : ℕ) → constantTerm p ≡ true → length b ≤ length p → Divides p (zeros i ++ (b ++ zeros j)) → b ≡ zeros (length b)
+divides-window p b i j l h e =
+    let s : (length p - length b) + length b ≡ length p = omega arith in
+    append-cancel-left (zeros (length p - length b)) b (zeros (length b))
+    (sym (remainder-short p b h) ∙ trailing p b j l .0 (sym (leading p i (b ++ zeros j)) ∙ e)
+    ∙ ap zeros (sym s) ∙ sym (zeros-append (length p - length b) (length b)))
+
+window-equal : (p a b : List Bool) → constantTerm p ≡ true → Undetected p a b → Window (length p) (xor a b) → a ≡ b
+window-equal p a b l u w =
+    let e = w .bits in
+    let z : e ≡ zeros (length e) = divides-window p e (w .before) (w .after) l (w .small) (sym (ap (remainder p) (w .whole)) ∙ divides p a b u) in
+    let n : length (xor a b) ≡ w .before + (length e + w .after) = ap length (w .whole) ∙ simp (length-append, length-replicate) refl in
+    equal-of-xor a b (u .one-length)
+    (w .whole ∙ ap (λ v. zeros (w .before) ++ (v ++ zeros (w .after))) z
+    ∙ ap (λ v. zeros (w .before) ++ v) (zeros-append (length e) (w .after)) ∙ zeros-append (w .before) (length e + w .after)
+    ∙ ap zeros (sym n ∙ length-xor a b (u .one-length)))
+
+pub burst : (p a b : List Bool) → constantTerm p ≡ true → Undetected p a b → (n : ℕ) → n ≤ length p → Burst n (differing a b) → a ≡ b
+burst p a b l u n h e = window-equal p a b l u (burst-window (length p) a b (burst-widen n (length p) (differing a b) h e))
+
+-- ---- odd numbers of bits, where the low part of the divisor has an odd number of terms: then a step adds just the new bit to the parity
+
+parity-step : (p r : List Bool) (b : Bool) → parity p ≡ true → length r ≡ length p → parity (step p r b) ≡ add b (parity r)
+parity-step [] [] b o h = absurd (true≢false (sym o))
+parity-step (x ∷ p) [] b o h = absurd (omega arith)
+parity-step p (true ∷ r) b o h = parity-xor p (r ++ b ∷ []) (simp length-append (omega arith)) ∙ rw (o, parity-snoc r b) (add-left-comm true b (parity r))
+parity-step p (false ∷ r) b o h = parity-snoc r b
+
+parity-divide : (p r a : List Bool) → parity p ≡ true → length r ≡ length p → parity (divide p r a) ≡ add (parity a) (parity r)
+unfolding divide
+parity-divide p r [] o h = refl
+parity-divide p r (x ∷ a) o h =
+    parity-divide p (step p r x) a o (length-step p r x h)
+    ∙ rw (parity-step p r x o h) (add-left-comm (parity a) x (parity r) ∙ sym (add-assoc x (parity a) (parity r)))
+
+pub parity-remainder : (p a : List Bool) → parity p ≡ true → parity (remainder p a) ≡ parity a
+unfolding remainder
+parity-remainder p a o =
+    parity-divide p (zeros (length p)) a o (length-zeros (length p))
+    ∙ ap (add (parity a)) (parity-zeros (length p)) ∙ add-comm (parity a) false
+
+pub even : (p a b : List Bool) → EvenTerms p → Undetected p a b → weight (xor a b) % 2 ≡ 0
+even p a b o u =
+    weight-parity (xor a b)
+    ∙ ap digit (sym (parity-remainder p (xor a b) o) ∙ ap parity (divides p a b u) ∙ parity-zeros (length p))
+
+-- ---- two bits
+
+pair-sum : (k : ℕ) → true ∷ (zeros k ++ true ∷ []) ≡ xor (true ∷ zeros (suc k)) (zeros (suc k) ++ true ∷ [])
+pair-sum k = ap (λ z. true ∷ z) (sym (xor-zeros (suc k) (zeros k ++ true ∷ []) (simp (length-append, length-replicate) (omega arith))))
+
+remainder-pair : (p : List Bool) (k : ℕ) → remainder p (true ∷ (zeros k ++ true ∷ [])) ≡ xor (power p (suc k)) (power p 0)
+unfolding power
+remainder-pair p k =
+    ap (remainder p) (pair-sum k)
+    ∙ remainder-xor p (true ∷ zeros (suc k)) (zeros (suc k) ++ true ∷ []) (simp (length-append, length-replicate) (omega arith))
+    ∙ ap (xor (power p (suc k))) (leading p (suc k) (true ∷ []))
+
+length-power : (p : List Bool) (d : ℕ) → length (power p d) ≡ length p
+unfolding power
+length-power p d = length-remainder p (true ∷ zeros d)
+
+divides-pair : (p : List Bool) (i k j : ℕ) → constantTerm p ≡ true → Divides p (zeros i ++ ((true ∷ (zeros k ++ true ∷ [])) ++ zeros j)) ↔ PowerIsOne p (suc k)
+divides-pair p i k j l =
+    let pair = true ∷ (zeros k ++ true ∷ []) in (
+      λ e. equal-of-xor (power p (suc k)) (power p 0) (length-power p (suc k) ∙ sym (length-power p 0))
+          (sym (remainder-pair p k) ∙ trailing p pair j l .0 (sym (leading p i (pair ++ zeros j)) ∙ e) ∙ ap zeros (sym (length-power p 0))),
+      λ e. leading p i (pair ++ zeros j)
+          ∙ trailing p pair j l .1 (remainder-pair p k ∙ ap (λ z. xor z (power p 0)) e ∙ xor-self (power p 0) ∙ ap zeros (length-power p 0)),
+    )
+
+pub two-bits : (p a b : List Bool) → constantTerm p ≡ true → length a ≡ length b → (i j : ℕ) → differing a b ≡ i ∷ j ∷ []
+    → (remainder p a ≡ remainder p b) ↔ PowerIsOne p (j - i)
+two-bits p a b l h i j e =
+    let t = two-differing a b i j e in
+    let d = difference p a b h in
+    let q = divides-pair p (t .before) (t .between) (t .after) l in
+    let n : j - i ≡ suc (t .between) = omega (arith, t .apart) in (
+      λ r. ap (power p) n ∙ q .0 (sym (ap (remainder p) (t .whole)) ∙ d .0 r),
+      λ o. d .1 (ap (remainder p) (t .whole) ∙ q .1 (sym (ap (power p) n) ∙ o)),
+    )
+
+-- where x^d is 1 at no distance d within the string, strings that differ in at most two bits are equal
+pub three-bits : (p a b : List Bool) → constantTerm p ≡ true → 0 < length p → OrderAbove p (length a) → Undetected p a b → weight (xor a b) ≤ 2 → a ≡ b
+three-bits p a b l w far u h = go (differing a b) refl
+  where
+    one : Window 1 (xor a b) → a ≡ b
+    one v =
+        window-equal p a b l u
+        (record { before = v .before; after = v .after; bits = v .bits; small = omega (arith, v .small); whole = v .whole })
+
+    go : (ns : List ℕ) → differing a b ≡ ns → a ≡ b
+    go [] e = equal-of-differing a b (u .one-length) e
+    go (i ∷ []) e = one (one-differing a b i e)
+    go (i ∷ j ∷ []) e =
+        let t = two-differing a b i j e in
+        absurd
+        (far (j - i) (omega (arith, t .apart)) (omega (arith, t .apart, t .inside, length-xor a b (u .one-length), u .one-length))
+        (two-bits p a b l (u .one-length) i j e .0 (u .one-remainder)))
+    go (i ∷ j ∷ k ∷ ns) e = absurd (omega (arith, ap length e, length-differing a b))

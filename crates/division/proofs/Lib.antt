@@ -1,0 +1,8 @@
+pub mod Linear
+pub mod Zeros
+pub mod Quotient
+pub mod Detection
+pub mod Powers
+pub mod Order
+pub mod Generators
+pub mod Laws
