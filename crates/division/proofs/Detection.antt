@@ -1,24 +1,24 @@
 -- Which differences of two strings leave no remainder. Assumes nothing.
-use mathlib.Core.Path.{_≡_, refl, sym, ap, ap₂, _∙_}
+use mathlib.Core.Path.{_≡_, refl, sym, ap, _∙_}
 use mathlib.Core.Logic.{_↔_}
-use Prim.Native.Nat.{ℕ, zero, suc, _+_, _-_, _%_, _≤_, _<_}
+use Prim.Native.Nat.{ℕ, suc, _+_, _-_, _≤_}
 use native.Mathlib.Omega.{arith}
 use mathlib.Core.Bool.{Bool, true, false, true≢false}
 use mathlib.Core.List.{List, [], _∷_, _++_, append-cancel-left}
 use lib.ListN.{length, length-append, length-replicate}
-use Rattle.bits.specs.Strings.{add, xor, zeros, parity, weight}
+use Rattle.bits.specs.Strings.{add, xor, zeros, parity}
 use Rattle.bits.specs.Bytes.{digit}
-use Rattle.bits.specs.Differences.{differing, Burst}
+use Rattle.bits.specs.Differences.{differing}
 use Rattle.bits.proofs.Strings.{length-zeros, length-xor, xor-zeros, xor-self, zeros-append, equal-of-xor, add-comm, add-assoc, add-left-comm, parity-snoc, parity-xor, parity-zeros, weight-parity}
-use Rattle.bits.proofs.Differences.{Window, burst-window, burst-widen, TwoSet, two-differing, one-differing, length-differing, equal-of-differing}
+use Rattle.bits.proofs.Differences.{Window, burst-window, burst-widen, two-differing, one-differing, length-differing, equal-of-differing}
 use Rattle.division.specs.Division.{step, divide, remainder, Divides, power, PowerIsOne, constantTerm}
-use Rattle.division.specs.Laws.{Undetected, EvenTerms, OrderAbove}
+use Rattle.division.specs.Laws.{Undetected, DifferenceDivides, DetectsBursts, DetectsOdd, TwoBits, DetectsTwo}
 use Rattle.division.proofs.Linear.{length-step, length-remainder, remainder-xor}
 use Rattle.division.proofs.Zeros.{leading, trailing, remainder-short}
 
 -- ---- two strings of one length have one remainder exactly where their difference leaves none
 
-pub difference : (p a b : List Bool) → length a ≡ length b → (remainder p a ≡ remainder p b) ↔ Divides p (xor a b)
+pub difference : DifferenceDivides
 difference p a b h = (
   λ e. remainder-xor p a b h ∙ ap (λ z. xor z (remainder p b)) e ∙ xor-self (remainder p b) ∙ ap zeros (length-remainder p b),
   λ e. equal-of-xor (remainder p a) (remainder p b) (length-remainder p a ∙ sym (length-remainder p b))
@@ -48,7 +48,7 @@ window-equal p a b l u w =
     ∙ ap (λ v. zeros (w .before) ++ v) (zeros-append (length e) (w .after)) ∙ zeros-append (w .before) (length e + w .after)
     ∙ ap zeros (sym n ∙ length-xor a b (u .one-length)))
 
-pub burst : (p a b : List Bool) → constantTerm p ≡ true → Undetected p a b → (n : ℕ) → n ≤ length p → Burst n (differing a b) → a ≡ b
+pub burst : DetectsBursts
 burst p a b l u n h e = window-equal p a b l u (burst-window (length p) a b (burst-widen n (length p) (differing a b) h e))
 
 -- ---- odd numbers of bits, where the low part of the divisor has an odd number of terms: then a step adds just the new bit to the parity
@@ -72,7 +72,7 @@ parity-remainder p a o =
     parity-divide p (zeros (length p)) a o (length-zeros (length p))
     ∙ ap (add (parity a)) (parity-zeros (length p)) ∙ add-comm (parity a) false
 
-pub even : (p a b : List Bool) → EvenTerms p → Undetected p a b → weight (xor a b) % 2 ≡ 0
+pub even : DetectsOdd
 even p a b o u =
     weight-parity (xor a b)
     ∙ ap digit (sym (parity-remainder p (xor a b) o) ∙ ap parity (divides p a b u) ∙ parity-zeros (length p))
@@ -102,8 +102,7 @@ divides-pair p i k j l =
           ∙ trailing p pair j l .1 (remainder-pair p k ∙ ap (λ z. xor z (power p 0)) e ∙ xor-self (power p 0) ∙ ap zeros (length-power p 0)),
     )
 
-pub two-bits : (p a b : List Bool) → constantTerm p ≡ true → length a ≡ length b → (i j : ℕ) → differing a b ≡ i ∷ j ∷ []
-    → (remainder p a ≡ remainder p b) ↔ PowerIsOne p (j - i)
+pub two-bits : TwoBits
 two-bits p a b l h i j e =
     let t = two-differing a b i j e in
     let d = difference p a b h in
@@ -113,8 +112,9 @@ two-bits p a b l h i j e =
       λ o. d .1 (ap (remainder p) (t .whole) ∙ q .1 (sym (ap (power p) n) ∙ o)),
     )
 
--- where x^d is 1 at no distance d within the string, strings that differ in at most two bits are equal
-pub three-bits : (p a b : List Bool) → constantTerm p ≡ true → 0 < length p → OrderAbove p (length a) → Undetected p a b → weight (xor a b) ≤ 2 → a ≡ b
+-- ---- at most two bits, where x^d is 1 at no distance within the string
+
+pub three-bits : DetectsTwo
 three-bits p a b l w far u h = go (differing a b) refl
   where
     one : Window 1 (xor a b) → a ≡ b

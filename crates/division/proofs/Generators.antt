@@ -1,14 +1,13 @@
 -- The generators of the standard: what the laws ask of them, the orders of x, and the receiver's remainders. All computed. Assumes nothing.
 use mathlib.Core.Path.{_≡_, refl, sym, _∙_}
-use Prim.Native.Nat.{ℕ, suc, _-_, _*_, _/_, _≤_, _<_}
+use Prim.Native.Nat.{suc, _-_, _*_, _/_}
 use native.Mathlib.Omega.{arith}
 use mathlib.Core.Bool.{Bool, _&&_, true≢false}
-use mathlib.Core.List.{List, [], _∷_, _++_, head-eq-of-cons-eq, tail-eq-of-cons-eq}
+use mathlib.Core.List.{List, [], _∷_, head-eq-of-cons-eq, tail-eq-of-cons-eq}
 use lib.Dec.{T}
-use Rattle.bits.specs.Strings.{zeros, ones}
 use Rattle.division.specs.Division.{divide, remainder, power}
-use Rattle.division.specs.Generators.{ccitt16, ibm16, ieee32, receiver16, receiver32, printed32}
-use Rattle.division.specs.Laws.{Generator, EvenTerms, OrderIs, OrderAbove}
+use Rattle.division.specs.Generators.{ccitt16, ibm16, ieee32}
+use Rattle.division.specs.Laws.{Generator, EvenTerms, OrderIs, OrderAbove, order16, reach16, reach32, Receiver16, Receiver32, Misprint32}
 use Rattle.division.proofs.Order.{certified, order, both, all, all-at, isNotOne, is-not-one, squares}
 
 -- ---- width and terms
@@ -35,11 +34,11 @@ ibm16-even = refl
 
 -- ---- orders: 32,767 = 7 · 31 · 151, and 2^32 - 1 = 3 · 5 · 17 · 257 · 65,537
 
-ccitt16-certificate : T (certified ccitt16 15 32767 (7 ∷ 31 ∷ 151 ∷ []))
+ccitt16-certificate : T (certified ccitt16 15 order16 (7 ∷ 31 ∷ 151 ∷ []))
 unfolding ccitt16 divide remainder power
 ccitt16-certificate = tt
 
-ibm16-certificate : T (certified ibm16 15 32767 (7 ∷ 31 ∷ 151 ∷ []))
+ibm16-certificate : T (certified ibm16 15 order16 (7 ∷ 31 ∷ 151 ∷ []))
 unfolding ibm16 divide remainder power
 ibm16-certificate = tt
 
@@ -52,18 +51,18 @@ ieee32-multiples : T (squares ieee32 && all (λ j. isNotOne ieee32 20 (65535 * s
 unfolding ieee32 divide remainder power
 ieee32-multiples = tt
 
-order-16 : (p : List Bool) → T (certified p 15 32767 (7 ∷ 31 ∷ 151 ∷ [])) → OrderIs p 32767 32783
+order-16 : (p : List Bool) → T (certified p 15 order16 (7 ∷ 31 ∷ 151 ∷ [])) → OrderIs p order16 reach16
 order-16 p c d h k =
-    let t = order p 15 32767 (7 ∷ 31 ∷ 151 ∷ []) c in
+    let t = order p 15 order16 (7 ∷ 31 ∷ 151 ∷ []) c in
     (λ e. omega (arith, t .1 d e), λ e. rw e (t .0))
 
-pub order-ccitt16 : OrderIs ccitt16 32767 32783
+pub order-ccitt16 : OrderIs ccitt16 order16 reach16
 order-ccitt16 = order-16 ccitt16 ccitt16-certificate
 
-pub order-ibm16 : OrderIs ibm16 32767 32783
+pub order-ibm16 : OrderIs ibm16 order16 reach16
 order-ibm16 = order-16 ibm16 ibm16-certificate
 
-pub order-ieee32 : OrderAbove ieee32 524319
+pub order-ieee32 : OrderAbove ieee32 reach32
 order-ieee32 d h k e =
     let m = order ieee32 32 4294967295 (3 ∷ 5 ∷ 17 ∷ 257 ∷ []) ieee32-certificate .1 d e in
     let j = d / 65535 - 1 in
@@ -73,14 +72,14 @@ order-ieee32 d h k e =
 
 -- ---- the receiver's remainders
 
-pub receiver-16 : remainder ccitt16 (ones 16 ++ zeros 16) ≡ receiver16
+pub receiver-16 : Receiver16
 unfolding ccitt16 divide remainder
 receiver-16 = refl
 
-pub receiver-32 : remainder ieee32 (ones 32 ++ zeros 32) ≡ receiver32
+pub receiver-32 : Receiver32
 unfolding ieee32 divide remainder
 receiver-32 = refl
 
 -- the printed string is another at the second digit
-pub misprint-32 : remainder ieee32 (ones 32 ++ zeros 32) ≡ printed32 → ⊥
+pub misprint-32 : Misprint32
 misprint-32 e = true≢false (head-eq-of-cons-eq (tail-eq-of-cons-eq (sym receiver-32 ∙ e)))

@@ -5,4 +5,3 @@ pub mod Detection
 pub mod Powers
 pub mod Order
 pub mod Generators
-pub mod Laws

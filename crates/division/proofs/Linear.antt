@@ -1,6 +1,5 @@
 -- Division is linear, and goes on from the register that a first part left. Assumes nothing.
 use mathlib.Core.Path.{_≡_, refl, sym, ap, _∙_}
-use Prim.Native.Nat.{suc}
 use native.Mathlib.Omega.{arith}
 use mathlib.Core.Bool.{Bool, true, false}
 use mathlib.Core.List.{List, [], _∷_, _++_}
@@ -8,6 +7,7 @@ use lib.ListN.{length, length-append}
 use Rattle.bits.specs.Strings.{add, xor, zeros}
 use Rattle.bits.proofs.Strings.{length-zeros, length-xor, xor-nil, xor-append, xor-assoc, xor-left-comm, xor-cancel, xor-zeros}
 use Rattle.division.specs.Division.{step, divide, remainder}
+use Rattle.division.specs.Laws.{RemainderIsLinear}
 
 -- ---- step
 
@@ -60,7 +60,7 @@ pub remainder-append : (p a b : List Bool) → remainder p (a ++ b) ≡ divide p
 unfolding remainder
 remainder-append p a b = divide-append p (zeros (length p)) a b
 
-pub remainder-xor : (p a b : List Bool) → length a ≡ length b → remainder p (xor a b) ≡ xor (remainder p a) (remainder p b)
+pub remainder-xor : RemainderIsLinear
 unfolding remainder
 remainder-xor p a b l =
     let z = zeros (length p) in

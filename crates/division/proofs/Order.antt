@@ -12,7 +12,7 @@ use lib.ListN.{length}
 use Rattle.bits.specs.Strings.{same}
 use Rattle.bits.proofs.Strings.{same-sound, same-self}
 use Rattle.division.specs.Division.{power, PowerIsOne}
-use Rattle.division.proofs.Powers.{square, Squares, fastPower, fast-power, one-add, one-multiple}
+use Rattle.division.proofs.Powers.{square, fastPower, fast-power, one-add, one-multiple}
 
 -- ---- tests over numbers
 

@@ -8,6 +8,7 @@ use lib.ListN.{length, length-append, length-replicate}
 use Rattle.bits.specs.Strings.{xor, zeros}
 use Rattle.bits.proofs.Strings.{zeros-snoc, length-zeros, length-xor, add-comm, xor-comm, xor-assoc, xor-cancel, xor-zeros, xor-self, xor-append}
 use Rattle.division.specs.Division.{step, divide, remainder, Divides, power, scale, times, Divided}
+use Rattle.division.specs.Laws.{DivisionLaw, DivisionIsUnique}
 use Rattle.division.proofs.Linear.{length-step, length-remainder, remainder-append, remainder-xor}
 use Rattle.division.proofs.Zeros.{divide-zeros, divides-zeros, leading, remainder-full}
 
@@ -61,7 +62,7 @@ from p (t ∷ r) (b ∷ a) w h = go (from p (step p (t ∷ r) b) a w (length-ste
           ∙ append-assoc r (b ∷ []) a)),
     )
 
-pub division : (p a : List Bool) → 0 < length p → (q : List Bool) × Divided p a q (remainder p a)
+pub division : DivisionLaw
 unfolding remainder
 division p a w =
     let d = from p (zeros (length p)) a w (length-zeros (length p)) in
@@ -129,7 +130,7 @@ times-injective p (t ∷ q) (t′ ∷ q′) h e =
     sym (xor-cancel s m (length-times q p ∙ sym l)) ∙ ap (xor s) c ∙ xor-cancel s m′ (omega (arith, length-times q′ p)) in
     ap₂ (λ u v. u ∷ v) g (times-injective p q q′ n w)
 
-pub unique : (p a q r q′ r′ : List Bool) → Divided p a q r → Divided p a q′ r′ → (q ≡ q′) × (r ≡ r′)
+pub unique : DivisionIsUnique
 unique p a q r q′ r′ d d′ =
     let e : r ≡ r′ = unique-remainder p a q r d ∙ sym (unique-remainder p a q′ r′ d′) in
     let z = zeros (length a) ++ r in

@@ -1,6 +1,5 @@
 -- Zeros before and behind a string, and strings no longer than the register. Assumes nothing.
 use mathlib.Core.Path.{_≡_, refl, sym, ap, _∙_}
-use mathlib.Core.Logic.{_↔_}
 use Prim.Native.Nat.{ℕ, zero, suc, _+_, _-_, _≤_}
 use native.Mathlib.Omega.{arith}
 use mathlib.Core.Bool.{Bool, true, false, true≢false}
@@ -9,6 +8,7 @@ use lib.ListN.{length}
 use Rattle.bits.specs.Strings.{add, xor, zeros}
 use Rattle.bits.proofs.Strings.{zeros-snoc, zeros-append}
 use Rattle.division.specs.Division.{step, divide, remainder, Divides, constantTerm}
+use Rattle.division.specs.Laws.{LeadingZeros, TrailingZeros}
 use Rattle.division.proofs.Linear.{length-step, divide-append, length-remainder, remainder-append}
 
 -- ---- leading zeros
@@ -26,7 +26,7 @@ pub divides-zeros : (p : List Bool) (n : ℕ) → Divides p (zeros n)
 unfolding remainder
 divides-zeros p n = divide-zeros p (length p) n
 
-pub leading : (p : List Bool) (n : ℕ) (a : List Bool) → remainder p (zeros n ++ a) ≡ remainder p a
+pub leading : LeadingZeros
 unfolding remainder
 leading p n a = divide-append p (zeros (length p)) (zeros n) a ∙ ap (λ z. divide p z a) (divide-zeros p (length p) n)
 
@@ -57,7 +57,7 @@ unfolding divide
 divide-kernel p r zero l h e = e
 divide-kernel p r (suc n) l h e = step-kernel p r l h (divide-kernel p (step p r false) n l (length-step p r false h) e)
 
-pub trailing : (p a : List Bool) (n : ℕ) → constantTerm p ≡ true → Divides p (a ++ zeros n) ↔ Divides p a
+pub trailing : TrailingZeros
 trailing p a n l = (
   λ e. divide-kernel p (remainder p a) n l (length-remainder p a) (sym (remainder-append p a (zeros n)) ∙ e),
   λ e. remainder-append p a (zeros n) ∙ ap (λ z. divide p z (zeros n)) e ∙ divide-zeros p (length p) n,

@@ -1,0 +1,60 @@
+-- The number check in the paper's numbers: document 01, part 5, and 003 par. 3.2 to 3.4. Assumes nothing.
+use mathlib.Core.Path.{_≡_}
+use Prim.Native.Nat.{ℕ, _+_, _-_, _/_, _%_, _^_, _<_}
+use mathlib.Core.Bool.{Bool, true, false, _&&_}
+use lib.Dec.{eqb, leb, ltb}
+
+-- new, repeat or lost; or the number of the question that was answered no
+pub data Verdict : Type 0 where
+  new : Verdict
+  repeat : Verdict
+  lost : Verdict
+  refused : ℕ → Verdict
+
+-- a verdict, and the record after it: n and the awaited number c
+pub record Outcome : Type 0 where
+  pub verdict : Verdict
+  pub n : ℕ
+  pub c : ℕ
+
+-- d = c − b modulo m, the difference wrapping below zero
+unfoldable pub difference : ℕ → ℕ → ℕ → ℕ
+difference m c b = (c + (m - b % m)) % m
+
+-- what that means: d is the residue of the whole number c − b, so the one number below m that added to b gives c modulo m
+pub record Residue (m c b d : ℕ) : Type 0 where
+  pub below : d < m
+  pub congruent : (b + d) % m ≡ c % m
+
+abbrev pub choose : {A : Type 0} → Bool → A → A → A
+choose true a b = a
+choose false a b = b
+
+-- d = 0: new; d up to half the modulus: repeat; otherwise: lost
+abbrev pub judged : ℕ → ℕ → Verdict
+judged m d = choose (eqb d 0) new (choose (leb d (m / 2)) repeat lost)
+
+-- a question: where its answer is no, its number; else what follows
+abbrev pub ask : Bool → ℕ → Verdict → Verdict
+ask holds number next = choose holds next (refused number)
+
+-- n from 1 to 7? 41. c below the modulus? 42. b below it? 43
+unfoldable pub verdictFor : ℕ → ℕ → ℕ → Verdict
+verdictFor n c b =
+    ask (leb 1 n && leb n 7) 41
+    (ask (ltb c (2 ^ n)) 42
+    (ask (ltb b (2 ^ n)) 43
+    (judged (2 ^ n) (difference (2 ^ n) c b))))
+
+-- on new, c moves on by 1 modulo 2^n; else it stays
+abbrev pub awaitedAfter : ℕ → ℕ → Verdict → ℕ
+awaitedAfter n c new = (c + 1) % 2 ^ n
+awaitedAfter n c repeat = c
+awaitedAfter n c lost = c
+awaitedAfter n c (refused number) = c
+
+abbrev pub outcome : ℕ → ℕ → Verdict → Outcome
+outcome n c v = record { verdict = v; n = n; c = awaitedAfter n c v }
+
+unfoldable pub receiving : ℕ → ℕ → ℕ → Outcome
+receiving n c b = outcome n c (verdictFor n c b)
