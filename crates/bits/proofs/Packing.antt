@@ -1,6 +1,6 @@
 -- Packing bits into bytes and unpacking them are inverse to each other. Assumes nothing.
 use mathlib.Core.Path.{_≡_, refl, sym, ap, ap₂, _∙_}
-use Prim.Native.Nat.{ℕ, zero, suc, _+_, _-_, _*_, _≤_, _<_}
+use Prim.Native.Nat.{ℕ, zero, suc, _+_, _-_, _*_, _/_, _≤_, _<_}
 use native.Mathlib.Omega.{arith}
 use mathlib.Core.Bool.{Bool, true, false}
 use mathlib.Core.List.{List, [], _∷_, _++_, append-assoc, append-nil}
@@ -10,9 +10,9 @@ use lib.Pow.{pow-mono}
 use lib.ListN.{length, take, drop, getD, length-take, length-drop, take-append-drop, drop-of-length-le}
 use lib.Seq.{take-all, take-at, drop-drop}
 use Rattle.bits.specs.Strings.{zeros}
-use Rattle.bits.specs.Bytes.{lowBits, bitsOf, Bytes, value, bytesFor, packInto, pack}
+use Rattle.bits.specs.Bytes.{lowBits, bitsOf, Bytes, littleEndian, value, bytesFor, packInto, pack}
 use Rattle.bits.proofs.Strings.{zeros-append}
-use Rattle.bits.proofs.Bytes.{length-bitsOf, bitsOf-injective, lowBits-value-zeros, value-lt}
+use Rattle.bits.proofs.Bytes.{length-bitsOf, bitsOf-injective, lowBits-append, lowBits-mod, lowBits-value-zeros, value-lt}
 
 -- ---- packInto
 
@@ -96,3 +96,23 @@ pack-bitsOf bs b =
     let z : 8 * bytesFor (length (bitsOf bs)) - length (bitsOf bs) ≡ 0 = omega arith in
     bitsOf-injective (pack (bitsOf bs)) bs (bytes-pack (bitsOf bs)) b (length-pack (bitsOf bs) ∙ m)
     (bitsOf-pack (bitsOf bs) ∙ ap (λ k. bitsOf bs ++ zeros k) z ∙ append-nil (bitsOf bs))
+
+-- ---- littleEndian
+
+length-littleEndian : (n x : ℕ) → length (littleEndian n x) ≡ n
+length-littleEndian zero x = refl
+length-littleEndian (suc n) x = ap suc (length-littleEndian n (x / 256))
+
+bytes-littleEndian : (n x : ℕ) → Bytes (littleEndian n x)
+bytes-littleEndian zero x = tt
+bytes-littleEndian (suc n) x = (omega arith, bytes-littleEndian n (x / 256))
+
+pub bitsOf-littleEndian : (n x : ℕ) → bitsOf (littleEndian n x) ≡ lowBits (8 * n) x
+unfolding bitsOf lowBits
+bitsOf-littleEndian zero x = refl
+bitsOf-littleEndian (suc n) x =
+    let e : 8 + 8 * n ≡ 8 * suc n = omega arith in
+    ap₂ _++_ (lowBits-mod 8 x) (bitsOf-littleEndian n (x / 256)) ∙ sym (lowBits-append 8 (8 * n) x) ∙ ap (λ w. lowBits w x) e
+
+pub pack-lowBits : (n x : ℕ) → pack (lowBits (8 * n) x) ≡ littleEndian n x
+pack-lowBits n x = ap pack (sym (bitsOf-littleEndian n x)) ∙ pack-bitsOf (littleEndian n x) (bytes-littleEndian n x)

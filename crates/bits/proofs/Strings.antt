@@ -80,6 +80,9 @@ xor-self (false ∷ a) = rw (xor-self a)
 pub xor-cancel : (p a : List Bool) → length a ≡ length p → xor p (xor p a) ≡ a
 xor-cancel p a h = sym (xor-assoc p p a) ∙ ap (λ z. xor z a) (xor-self p) ∙ xor-zeros (length p) a h
 
+pub xor-injective : (p a b : List Bool) → length a ≡ length p → length b ≡ length p → xor p a ≡ xor p b → a ≡ b
+xor-injective p a b h k e = sym (xor-cancel p a h) ∙ ap (xor p) e ∙ xor-cancel p b k
+
 -- two strings of one length whose sum is zero are equal
 pub equal-of-xor : (a b : List Bool) → length a ≡ length b → xor a b ≡ zeros (length b) → a ≡ b
 equal-of-xor a b h e =

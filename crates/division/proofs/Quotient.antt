@@ -71,7 +71,7 @@ division p a w =
 -- ---- uniqueness of the remainder: a multiple of the divisor leaves none
 
 -- x^w leaves p
-power-width : (p : List Bool) → power p (length p) ≡ p
+pub power-width : (p : List Bool) → power p (length p) ≡ p
 unfolding power remainder divide
 power-width [] = refl
 power-width (x ∷ p) =

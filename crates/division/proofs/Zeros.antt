@@ -6,10 +6,10 @@ use mathlib.Core.Bool.{Bool, true, false, true≢false}
 use mathlib.Core.List.{List, [], _∷_, _++_, append-assoc, append-cancel-right, append-nil}
 use lib.ListN.{length}
 use Rattle.bits.specs.Strings.{add, xor, zeros}
-use Rattle.bits.proofs.Strings.{zeros-snoc, zeros-append}
+use Rattle.bits.proofs.Strings.{zeros-snoc, zeros-append, length-zeros, length-xor, xor-zeros, xor-self, equal-of-xor}
 use Rattle.division.specs.Division.{step, divide, remainder, Divides, constantTerm}
 use Rattle.division.specs.Laws.{LeadingZeros, TrailingZeros}
-use Rattle.division.proofs.Linear.{length-step, divide-append, length-remainder, remainder-append}
+use Rattle.division.proofs.Linear.{length-step, divide-append, length-divide, divide-linear, length-remainder, remainder-append}
 
 -- ---- leading zeros
 
@@ -56,6 +56,17 @@ divide-kernel : (p r : List Bool) (n : ℕ) → constantTerm p ≡ true → leng
 unfolding divide
 divide-kernel p r zero l h e = e
 divide-kernel p r (suc n) l h e = step-kernel p r l h (divide-kernel p (step p r false) n l (length-step p r false h) e)
+
+-- so zeros that follow keep two registers apart
+pub divide-injective : (p r s : List Bool) (n : ℕ) → constantTerm p ≡ true → length r ≡ length p → length s ≡ length p
+    → divide p r (zeros n) ≡ divide p s (zeros n) → r ≡ s
+divide-injective p r s n l h k e =
+    let z = zeros n in
+    let d = divide p s z in
+    equal-of-xor r s (h ∙ sym k)
+    (divide-kernel p (xor r s) n l (length-xor r s (h ∙ sym k) ∙ k)
+    (ap (divide p (xor r s)) (sym (xor-zeros n z (length-zeros n))) ∙ divide-linear p r s z z h k refl ∙ ap (λ v. xor v d) e
+    ∙ xor-self d ∙ ap zeros (length-divide p s z k)) ∙ ap zeros (sym k))
 
 pub trailing : TrailingZeros
 trailing p a n l = (

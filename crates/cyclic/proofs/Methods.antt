@@ -1,0 +1,96 @@
+-- The four methods: their widths, what a receiver finds, and the checks of rows 11 and 12. Assumes nothing.
+use mathlib.Core.Path.{_≡_, refl, sym, ap, _∙_}
+use Prim.Native.Nat.{ℕ, _+_, _<_}
+use native.Mathlib.Omega.{arith}
+use mathlib.Core.Bool.{Bool}
+use mathlib.Core.List.{List, _++_}
+use lib.ListN.{length, length-append, length-replicate}
+use Rattle.bits.specs.Strings.{xor, zeros, ones}
+use Rattle.bits.specs.Bytes.{lowBits, bitsOf}
+use Rattle.bits.proofs.Strings.{xor-comm, xor-zeros, zeros-append}
+use Rattle.division.specs.Division.{divide, remainder}
+use Rattle.division.specs.Generators.{ccitt16, ibm16}
+use Rattle.division.proofs.Generators.{ccitt16-generator, ibm16-generator, ieee32-generator, receiver-16, receiver-32}
+use Rattle.cyclic.specs.Check.{Parameters, formula, invertIf, checkBits, method3, method4, method5, method6, Constants}
+use Rattle.cyclic.specs.Register.{enter}
+use Rattle.cyclic.specs.Laws.{OfWidth, Receives, Receivers, Method4Formula, Row11, Row12}
+use Rattle.cyclic.proofs.Enter.{enter-is-formula}
+use Rattle.cyclic.proofs.Checks.{receiver}
+
+-- ---- widths
+
+pub width-3 : OfWidth 16 method3
+unfolding method3
+width-3 = record { generator = ccitt16-generator; start-length = refl }
+
+pub width-4 : OfWidth 16 method4
+unfolding method4
+width-4 = record { generator = ibm16-generator; start-length = refl }
+
+pub width-5 : OfWidth 16 method5
+unfolding method5
+width-5 = record { generator = ccitt16-generator; start-length = refl }
+
+pub width-6 : OfWidth 32 method6
+unfolding method6
+width-6 = record { generator = ieee32-generator; start-length = refl }
+
+-- ---- receivers
+
+ends-at : (m : Parameters) (w : ℕ) {a b : List Bool} → a ≡ b → Receives m w a → Receives m w b
+ends-at m w e r c s h = (λ f. r c s h .0 (f ∙ sym e), λ g. r c s h .1 g ∙ e)
+
+pub receivers : Receivers
+unfolding method3 method4 method5 method6
+receivers =
+    record {
+      method-3 = ends-at method3 16 receiver-16 (receiver 16 method3 width-3);
+      method-4 = receiver 16 method4 width-4;
+      method-5 = ends-at method5 16 receiver-16 (receiver 16 method5 width-5);
+      method-6 = ends-at method6 32 receiver-32 (receiver 32 method6 width-6);
+    }
+
+pub method4-formula : Method4Formula
+unfolding method4 checkBits formula ibm16
+method4-formula c =
+    let n = length c in
+    let a = c ++ zeros 16 in
+    let l : length a ≡ 16 + n = simp (length-append, length-replicate) (omega arith) in
+    ap (remainder ibm16) (xor-comm a (zeros 16 ++ zeros n) ∙ ap (λ z. xor z a) (zeros-append 16 n) ∙ xor-zeros (16 + n) a l)
+
+-- ---- a register that began at the method's start holds its formula
+
+pub check-of : (w : ℕ) (m : Parameters) → OfWidth w m → 0 < w → (c : List Bool) (start after check : ℕ) → lowBits w start ≡ m .start
+    → lowBits w after ≡ enter (m .generator) (lowBits w start) c → lowBits w check ≡ invertIf (m .inverted) (lowBits w after)
+    → lowBits w check ≡ checkBits m c
+unfolding checkBits formula
+check-of w m o pos c start after check began entered ended =
+    let wide = o .generator .width in
+    ended
+    ∙ ap (invertIf (m .inverted))
+    (entered ∙ ap (λ r. enter (m .generator) r c) began ∙ enter-is-formula w (m .generator) (m .start) c pos wide (o .start-length)
+    ∙ ap (λ n. remainder (m .generator) (xor (c ++ zeros n) (m .start ++ zeros (length c)))) (sym wide))
+
+-- a new register holds the method's start
+pub began : {m : Parameters} {register width polynomial start limit : ℕ} → Constants m register width polynomial start limit → lowBits width register ≡ m .start
+began {width = width} k = ap (lowBits width) (k .register-start) ∙ k .start-is
+
+-- ---- inversion
+
+pub ones-16 : lowBits 16 0xffff ≡ ones 16
+unfolding lowBits
+ones-16 = refl
+
+pub ones-32 : lowBits 32 0xffffffff ≡ ones 32
+unfolding lowBits
+ones-32 = refl
+
+-- ---- rows 11 and 12 of document 01
+
+pub row-11 : Row11
+unfolding method5 checkBits formula ccitt16 remainder divide bitsOf lowBits
+row-11 = refl
+
+pub row-12 : Row12
+unfolding method5 checkBits formula ccitt16 remainder divide bitsOf lowBits
+row-12 = refl

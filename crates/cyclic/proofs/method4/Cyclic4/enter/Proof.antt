@@ -1,0 +1,21 @@
+-- `Cyclic4::enter` meets its contract: bytes that enter through the generator's table enter bit by bit. Assumes nothing.
+use borrow.Author.Needs.{needs}
+use Rattle.cyclic.specs.Check.{method4}
+use Rattle.cyclic.proofs.Table.{entered-by}
+use Rattle.cyclic.proofs.Methods.{width-4}
+use Rattle.cyclic.proofs.method4.Cyclic4.enter.Statement.{statement}
+use Rattle.cyclic.proofs.method4.Cyclic4.enter.Tie as tie
+
+table-requires : tie.Need-table-requires
+table-requires c κs = search needs
+
+enter-slice16-requires : tie.Need-enter-slice16-requires
+enter-slice16-requires c κs = search needs
+
+returns : tie.Need-returns
+returns c =
+    let a = c .before .before .before .before .args in
+    entered-by 8 (method4 .generator) (width-4 .generator .width) (a .self .register) (a .content .now) (c .before .before .table .ensures) (c .enter-slice16 .ensures) (search needs)
+
+pub enter-spec : {M : Type 1} → statement M
+enter-spec = tie.close (tie.spec table-requires enter-slice16-requires returns)

@@ -1,0 +1,81 @@
+-- What is proved of the checks: each statement once, under the name that its proof carries. Assumes nothing.
+use mathlib.Core.Path.{_≡_}
+use mathlib.Core.Logic.{_↔_}
+use Prim.Native.Nat.{ℕ, _+_, _^_, _<_}
+use mathlib.Core.Bool.{Bool, true, false}
+use mathlib.Core.List.{List, [], _∷_, _++_}
+use lib.ListN.{length}
+use Rattle.bits.specs.Strings.{xor, zeros, ones}
+use Rattle.bits.specs.Bytes.{lowBits, bitsOf}
+use Rattle.division.specs.Division.{remainder, Divides}
+use Rattle.division.specs.Generators.{ibm16, receiver16, receiver32}
+use Rattle.division.specs.Laws.{Generator}
+use Rattle.cyclic.specs.Check.{Parameters, formula, checkBits, method3, method4, method5, method6}
+use Rattle.cyclic.specs.Register.{enter, tableOf, enterAllByTable}
+
+-- parameters of width w
+pub record OfWidth (w : ℕ) (m : Parameters) : Type 0 where
+  pub generator : Generator w (m .generator)
+  pub start-length : length (m .start) ≡ w
+
+-- ---- what a receiver finds
+
+-- the remainder of a content with its check, by the same formula: that of x^w · (w ones) where the check is inverted, else zero
+abbrev pub residueIf : Bool → ℕ → List Bool → List Bool
+residueIf true w p = remainder p (ones w ++ zeros w)
+residueIf false w p = zeros w
+
+-- content and check leave this remainder if and only if the check is the rule's
+abbrev pub ReceiverLaw : Type 0
+ReceiverLaw =
+    (w : ℕ) (m : Parameters) → OfWidth w m → (c s : List Bool) → length s ≡ w
+    → (formula m (c ++ s) ≡ residueIf (m .inverted) w (m .generator)) ↔ (s ≡ checkBits m c)
+
+-- in the numbers of the appendices
+abbrev pub Receives : Parameters → ℕ → List Bool → Type 0
+Receives m w residue = (c s : List Bool) → length s ≡ w → (formula m (c ++ s) ≡ residue) ↔ (s ≡ checkBits m c)
+
+pub record Receivers : Type 0 where
+  pub method-3 : Receives method3 16 receiver16
+  pub method-4 : Receives method4 16 (zeros 16)
+  pub method-5 : Receives method5 16 receiver16
+  pub method-6 : Receives method6 32 receiver32
+
+-- appendix 3 has no L: the check of method 4 is the remainder of x^16 · C
+abbrev pub Method4Formula : Type 0
+Method4Formula = (c : List Bool) → checkBits method4 c ≡ remainder ibm16 (c ++ zeros 16)
+
+-- ---- two contents of one length, the first with its check
+
+-- the second has its check exactly where both leave one remainder
+abbrev pub OneRemainder : Type 0
+OneRemainder =
+    (w : ℕ) (m : Parameters) → OfWidth w m → (c d s t : List Bool) → length c ≡ length d → s ≡ checkBits m c → length t ≡ w
+    → (t ≡ checkBits m d) ↔ (remainder (m .generator) (c ++ s) ≡ remainder (m .generator) (d ++ t))
+
+-- so the generator divides the difference of two accepted strings
+abbrev pub DifferenceDivides : Type 0
+DifferenceDivides =
+    (w : ℕ) (m : Parameters) → OfWidth w m → (c d s t : List Bool) → length c ≡ length d → s ≡ checkBits m c → t ≡ checkBits m d
+    → Divides (m .generator) (xor (c ++ s) (d ++ t))
+
+-- ---- the register
+
+-- bits that enter at the high end of a register of w bits leave the remainder of x^w · C + x^k · register
+abbrev pub EnterIsFormula : Type 0
+EnterIsFormula =
+    (w : ℕ) (p r c : List Bool) → 0 < w → length p ≡ w → length r ≡ w → enter p r c ≡ remainder p (xor (c ++ zeros w) (r ++ zeros (length c)))
+
+-- bytes that enter through the table of a generator, at any width from a byte on, enter bit by bit
+abbrev pub TableEnters : Type 0
+TableEnters =
+    (j : ℕ) (p : List Bool) → length p ≡ 8 + j → (register : ℕ) (bytes : List ℕ) → register < 2 ^ (8 + j)
+    → lowBits (8 + j) (enterAllByTable (tableOf (8 + j) p) register bytes) ≡ enter p (lowBits (8 + j) register) (bitsOf bytes)
+
+-- ---- rows 11 and 12 of document 01: the checks of FF and of FF FF under method 5
+
+abbrev pub Row11 : Type 0
+Row11 = checkBits method5 (bitsOf (0xff ∷ [])) ≡ bitsOf (0x00 ∷ 0xff ∷ [])
+
+abbrev pub Row12 : Type 0
+Row12 = checkBits method5 (bitsOf (0xff ∷ 0xff ∷ [])) ≡ bitsOf (0xff ∷ 0xff ∷ [])

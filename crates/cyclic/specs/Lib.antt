@@ -1,0 +1,3 @@
+pub mod Check
+pub mod Register
+pub mod Laws
