@@ -1,0 +1,37 @@
+// The library for C and Rust: the checks of methods 3 to 6 as exported functions.
+// A slice is passed as a pointer and then a length. Bit 0 of a check is its highest power and is sent first.
+use cyclic::Cyclic3;
+use cyclic::Cyclic4;
+use cyclic::Cyclic5;
+use cyclic::Cyclic6;
+ghost use mathlib.Core.Path.{_≡_};
+ghost use Rattle.bits.specs.Bytes.{lowBits, bitsOf};
+ghost use Rattle.cyclic.specs.Check.{checkBits, method3, method4, method5, method6};
+
+#[no_mangle]
+pub extern "C" fn corridor_check_3(content: &[u8]) -> u16
+    ensures { λ r. ⌜ lowBits 16 r ≡ checkBits method3 (bitsOf (now (content .entry))) ⌝ }
+{
+    Cyclic3::check_of(content)
+}
+
+#[no_mangle]
+pub extern "C" fn corridor_check_4(content: &[u8]) -> u16
+    ensures { λ r. ⌜ lowBits 16 r ≡ checkBits method4 (bitsOf (now (content .entry))) ⌝ }
+{
+    Cyclic4::check_of(content)
+}
+
+#[no_mangle]
+pub extern "C" fn corridor_check_5(content: &[u8]) -> u16
+    ensures { λ r. ⌜ lowBits 16 r ≡ checkBits method5 (bitsOf (now (content .entry))) ⌝ }
+{
+    Cyclic5::check_of(content)
+}
+
+#[no_mangle]
+pub extern "C" fn corridor_check_6(content: &[u8]) -> u32
+    ensures { λ r. ⌜ lowBits 32 r ≡ checkBits method6 (bitsOf (now (content .entry))) ⌝ }
+{
+    Cyclic6::check_of(content)
+}

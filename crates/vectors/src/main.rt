@@ -1,0 +1,94 @@
+// Runs the published check values and the checks of document 01's rows 11 to 13 through the calls, and prints what they give.
+// The file `stdout` holds what the papers say.
+use cyclic::Cyclic3;
+use cyclic::Cyclic4;
+use cyclic::Cyclic5;
+use cyclic::Cyclic6;
+use libc::STDOUT_FILENO;
+ghost use mathlib.Core.Path.{_≡_};
+ghost use Rattle.bits.specs.Bytes.{lowBits, bitsOf};
+ghost use Rattle.cyclic.specs.Check.{checkBits, method4};
+
+fn print_check(label: &[u8], check: u64, digits: usize) {
+    io::write_all(STDOUT_FILENO, label);
+    io::print_hex(STDOUT_FILENO, check, digits);
+    io::write_all(STDOUT_FILENO, b"\n");
+}
+
+fn print_byte(byte: u8) {
+    io::write_all(STDOUT_FILENO, b" ");
+    io::print_hex(STDOUT_FILENO, byte as u64, 2);
+}
+
+// A check in the order sent.
+fn print_sent16(label: &[u8], check: u16) {
+    let sent = cyclic::sent16(check);
+    io::write_all(STDOUT_FILENO, label);
+    print_byte(sent[0]);
+    print_byte(sent[1]);
+    io::write_all(STDOUT_FILENO, b"\n");
+}
+
+fn print_sent32(label: &[u8], check: u32) {
+    let sent = cyclic::sent32(check);
+    io::write_all(STDOUT_FILENO, label);
+    print_byte(sent[0]);
+    print_byte(sent[1]);
+    print_byte(sent[2]);
+    print_byte(sent[3]);
+    io::write_all(STDOUT_FILENO, b"\n");
+}
+
+// The check of method 4, byte by byte: the same by the contracts of the calls alone.
+fn check_4_by_bytes(content: &[u8]) -> u16
+    ensures { λ r. ⌜ lowBits 16 r ≡ checkBits method4 (bitsOf (now (content .entry))) ⌝ }
+{
+    let table = Cyclic4::table();
+    let mut register = Cyclic4::START;
+    let mut i = 0;
+    while i < content.len() {
+        register = cyclic::enter_byte16(&table, register, content[i]);
+        i += 1;
+    }
+    Cyclic4 { register }.check()
+}
+
+fn main() {
+    print_check(
+        b"123456789, method 3: ",
+        Cyclic3::check_of(b"123456789") as u64,
+        4,
+    );
+    print_check(
+        b"123456789, method 4: ",
+        Cyclic4::check_of(b"123456789") as u64,
+        4,
+    );
+    print_check(
+        b"123456789, method 4 by bytes: ",
+        check_4_by_bytes(b"123456789") as u64,
+        4,
+    );
+    print_check(
+        b"123456789, method 5: ",
+        Cyclic5::check_of(b"123456789") as u64,
+        4,
+    );
+    print_check(
+        b"123456789, method 6: ",
+        Cyclic6::check_of(b"123456789") as u64,
+        8,
+    );
+    print_sent16(
+        b"row 11, check of FF, method 5:",
+        Cyclic5::check_of(b"\xff"),
+    );
+    print_sent16(
+        b"row 12, check of FF FF, method 5:",
+        Cyclic5::check_of(b"\xff\xff"),
+    );
+    print_sent32(
+        b"row 13, check of FF, method 6:",
+        Cyclic6::check_of(b"\xff"),
+    );
+}
