@@ -1,0 +1,85 @@
+-- Document 01's numbers and values for each case of the answers. Assumes nothing.
+use Prim.Native.Nat.{ℕ}
+use lib.ListN.{length}
+use Rattle.block.specs.declared.Shape.{Shape}
+use Rattle.block.specs.declared.Shape.the-variants as shape
+use Rattle.block.specs.declared.ReadRefusal.{ReadRefusal}
+use Rattle.block.specs.declared.ReadRefusal.the-variants as reading
+use Rattle.block.specs.declared.BlockRead.{BlockRead}
+use Rattle.block.specs.declared.BlockRead.the-variants as read
+use Rattle.block.specs.declared.WriteRefusal.{WriteRefusal}
+use Rattle.block.specs.declared.WriteRefusal.the-variants as writing
+use Rattle.block.specs.declared.BlockWritten.{BlockWritten}
+use Rattle.block.specs.declared.BlockWritten.the-variants as written
+use Rattle.block.specs.Signs.{endByte}
+use Rattle.block.specs.Read as reads
+use Rattle.block.specs.Write as writes
+
+abbrev pub shapeNumber : Shape → ℕ
+shapeNumber shape.Header = 1
+shapeNumber shape.Text = 2
+shapeNumber shape.HeaderText = 3
+shapeNumber shape.ClearText = 4
+shapeNumber shape.HeaderClearText = 5
+
+-- what an answer says in numbers: shape, end sign, lengths of header and text and the counted number; or number and value of a
+-- refusal; or the length of a line
+pub data Numbers : Type 0 where
+  block : ℕ → ℕ → ℕ → ℕ → ℕ → Numbers
+  line : ℕ → Numbers
+  refused : ℕ → ℕ → Numbers
+
+abbrev pub readNumber : ReadRefusal → ℕ
+readNumber reading.TooLong = 11
+readNumber (reading.WrongParity at) = 12
+readNumber reading.NoStart = 13
+readNumber (reading.OutOfPlace at) = 14
+readNumber reading.NoEnd = 15
+readNumber (reading.CheckLength at) = 16
+readNumber reading.TooManyCounted = 17
+readNumber reading.WrongCheck = 18
+readNumber (reading.OutputShort needed) = 19
+
+abbrev pub readValue : ReadRefusal → ℕ
+readValue reading.TooLong = 0
+readValue (reading.WrongParity at) = at .0
+readValue reading.NoStart = 0
+readValue (reading.OutOfPlace at) = at .0
+readValue reading.NoEnd = 0
+readValue (reading.CheckLength at) = at .0
+readValue reading.TooManyCounted = 0
+readValue reading.WrongCheck = 0
+readValue (reading.OutputShort needed) = needed
+
+abbrev pub ofRead : BlockRead → Numbers
+ofRead (read.Taken b) = block (shapeNumber (b .shape)) (endByte (b .end)) (b .header) (b .text) (b .counted)
+ofRead (read.Refused r) = refused (readNumber r) (readValue r)
+
+abbrev pub writeNumber : WriteRefusal → ℕ
+writeNumber writing.NotCarried = 1
+writeNumber (writing.HeaderByte at) = 2
+writeNumber (writing.TextByte at) = 3
+writeNumber writing.PartNotEmpty = 4
+writeNumber writing.TooManyCounted = 5
+writeNumber (writing.OutputShort needed) = 6
+
+abbrev pub writeValue : WriteRefusal → ℕ
+writeValue writing.NotCarried = 0
+writeValue (writing.HeaderByte at) = at .0
+writeValue (writing.TextByte at) = at .0
+writeValue writing.PartNotEmpty = 0
+writeValue writing.TooManyCounted = 0
+writeValue (writing.OutputShort needed) = needed
+
+abbrev pub ofWritten : BlockWritten → Numbers
+ofWritten (written.Written length) = line length
+ofWritten (written.Refused r) = refused (writeNumber r) (writeValue r)
+
+-- the rules' answers in the same numbers
+abbrev pub ofReadAnswer : reads.ReadAnswer → Numbers
+ofReadAnswer (reads.taken b) = block (shapeNumber (b .shape)) (endByte (b .end)) (length (b .header)) (length (b .text)) (b .counted)
+ofReadAnswer (reads.refusal number value) = refused number value
+
+abbrev pub ofWriteAnswer : writes.WriteAnswer → Numbers
+ofWriteAnswer (writes.written bytes) = line (length bytes)
+ofWriteAnswer (writes.refusal number value) = refused number value

@@ -1,0 +1,37 @@
+-- Characters and their parity (document 01, part 1; 003 par. 1.1). Assumes nothing.
+use Prim.Native.Nat.{ℕ, _+_, _*_, _%_}
+use mathlib.Core.Bool.{Bool, true, false, Bool·beq}
+use Rattle.bits.specs.Strings.{add, parity}
+use Rattle.bits.specs.Bytes.{lowBits, digit}
+use Rattle.block.specs.declared.Method.{Method}
+use Rattle.block.specs.declared.Method.the-variants as method
+use Rattle.block.specs.declared.Parity.{Parity}
+use Rattle.block.specs.declared.Parity.the-variants.{Even, Odd}
+use Rattle.block.specs.Signs.{choose}
+
+-- methods 1 and 2 carry seven-bit characters, 3 and 4 eight-bit bytes
+abbrev pub isSeven : Method → Bool
+isSeven method.Parity = true
+isSeven method.Matrix = true
+isSeven method.Cyclic = false
+isSeven method.CyclicAlternative = false
+
+-- the character of a byte on the line
+unfoldable pub character : Bool → ℕ → ℕ
+character seven b = choose seven (b % 128) b
+
+-- whether the ones of a byte are to be odd in number: formulas (1) and (2)
+abbrev pub isOdd : Parity → Bool
+isOdd Even = false
+isOdd Odd = true
+
+unfoldable pub parityRight : Parity → ℕ → Bool
+parityRight p b = Bool·beq (parity (lowBits 8 b)) (isOdd p)
+
+-- a character with its parity bit on top
+unfoldable pub withParity : Parity → ℕ → ℕ
+withParity p b = b % 128 + 128 * digit (add (isOdd p) (parity (lowBits 7 b)))
+
+-- the byte by which a character is sent
+unfoldable pub sent : Bool → Parity → ℕ → ℕ
+sent seven p b = choose seven (withParity p b) b

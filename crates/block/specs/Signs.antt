@@ -1,0 +1,51 @@
+-- The seven signs (document 01, part 1; 003 calls them НЗ, НТ, КТ, АР1, СИН, КБ, РИ1). No other definition names their values.
+-- Assumes nothing.
+use Prim.Native.Nat.{ℕ}
+use mathlib.Core.Bool.{Bool, true, false}
+use lib.Dec.{eqb}
+use Rattle.block.specs.declared.EndSign.{EndSign}
+use Rattle.block.specs.declared.EndSign.the-variants.{Etx, Etb, Us}
+
+abbrev pub SOH : ℕ
+SOH = 0x01
+
+abbrev pub STX : ℕ
+STX = 0x02
+
+abbrev pub ETX : ℕ
+ETX = 0x03
+
+abbrev pub DLE : ℕ
+DLE = 0x10
+
+abbrev pub SYN : ℕ
+SYN = 0x16
+
+abbrev pub ETB : ℕ
+ETB = 0x17
+
+abbrev pub US : ℕ
+US = 0x1F
+
+-- the class of a character: a sign, or any other
+pub data Sign : Type 0 where
+  soh stx etx dle syn etb us other : Sign
+
+abbrev pub choose : {A : Type 0} → Bool → A → A → A
+choose true a b = a
+choose false a b = b
+
+unfoldable pub signOf : ℕ → Sign
+signOf b =
+    choose (eqb b SOH) soh
+    (choose (eqb b STX) stx
+    (choose (eqb b ETX) etx
+    (choose (eqb b DLE) dle
+    (choose (eqb b SYN) syn
+    (choose (eqb b ETB) etb
+    (choose (eqb b US) us other))))))
+
+abbrev pub endByte : EndSign → ℕ
+endByte Etx = ETX
+endByte Etb = ETB
+endByte Us = US
