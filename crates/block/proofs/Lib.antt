@@ -1,2 +1,5 @@
 pub mod Characters
+pub mod FramingCases
+pub mod NoSign
 pub mod Sums
+pub mod Turns

@@ -1,47 +1,46 @@
+-- `judge_clear_dle` meets its contract: each arm knows the sign of the character. Assumes nothing.
+use Rattle.block.specs.Signs.{signOf}
+use Rattle.block.proofs.NoSign.{no-sign}
 use Rattle.block.proofs.judge.judge_clear_dle.Statement.{statement}
 use Rattle.block.proofs.judge.judge_clear_dle.Tie as tie
-use Rattle.block.proofs.judge.judge_clear_dle.Reads as reads
-use Rattle.block.proofs.judge.judge_clear_dle.Lts as lts
 
--- src/judge.rt:134:1
 returns : tie.Need-returns
-returns c = ?
+unfolding signOf
+returns c = rw (c .match .keys1)
 
--- src/judge.rt:134:1
 returns-2 : tie.Need-returns-2
-returns-2 c = ?
+unfolding signOf
+returns-2 c = rw (c .match .keys2)
 
--- src/judge.rt:134:1
 returns-3 : tie.Need-returns-3
-returns-3 c = ?
+unfolding signOf
+returns-3 c = rw (c .match .keys3)
 
--- src/judge.rt:134:1
 returns-4 : tie.Need-returns-4
-returns-4 c = ?
+unfolding signOf
+returns-4 c = rw (c .match .keys4)
 
--- src/judge.rt:134:1
 returns-5 : tie.Need-returns-5
-returns-5 c = ?
+unfolding signOf
+returns-5 c = rw (c .match .keys5)
 
--- src/judge.rt:134:1
 returns-6 : tie.Need-returns-6
-returns-6 c = ?
+unfolding signOf
+returns-6 c = rw (c .match .keys6)
 
--- src/judge.rt:134:1
 returns-7 : tie.Need-returns-7
-returns-7 c = ?
+unfolding signOf
+returns-7 c = rw (c .match .keys7)
 
--- src/judge.rt:134:1
 returns-8 : tie.Need-returns-8
-returns-8 c = ?
+returns-8 c = rw (no-sign _ (c .before .match .rest .0))
 
--- src/judge.rt:134:1
 returns-9 : tie.Need-returns-9
-returns-9 c = ?
+unfolding signOf
+returns-9 c = rw (c .match .keys8)
 
--- src/judge.rt:134:1
 returns-10 : tie.Need-returns-10
-returns-10 c = ?
+returns-10 c = rw (no-sign _ (c .before .match .rest .0))
 
 pub judge-clear-dle-spec : {M : Type 1} → statement M
 judge-clear-dle-spec =

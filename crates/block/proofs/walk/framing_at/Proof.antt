@@ -1,130 +1,123 @@
+-- `framing_at` meets its contract, field by field. Assumes nothing.
+use mathlib.Core.Path.{refl}
+use Rattle.block.specs.Framings.{framingAt}
+use Rattle.block.proofs.FramingCases.{text-alone, text-behind, clear-alone, clear-behind, header-alone}
 use borrow.Author.Needs.{needs}
 use Rattle.block.proofs.walk.framing_at.Statement.{statement}
 use Rattle.block.proofs.walk.framing_at.Tie as tie
-use Rattle.block.proofs.walk.framing_at.Reads as reads
-use Rattle.block.proofs.walk.framing_at.Lts as lts
-use Rattle.block.proofs.walk.prior.Reads as prior-reads
-use Rattle.block.proofs.walk.segments_at.Reads as segments-at-reads
 
--- src/walk.rt:99:9
 prior-requires : tie.Need-prior-requires
 prior-requires c κs = search needs
 
--- src/walk.rt:103:16
 enum-told : tie.Need-enum-told
 enum-told c = search needs
 
--- src/walk.rt:104:17
 segments-at-requires : tie.Need-segments-at-requires
 segments-at-requires c κs = search needs
 
--- src/walk.rt:106:73
 add-segments-at : tie.Need-add-segments-at
 add-segments-at c = search needs
 
--- src/walk.rt:106:17
 segments-at-requires-2 : tie.Need-segments-at-requires-2
 segments-at-requires-2 c κs = search needs
 
--- src/walk.rt:110:16
 enum-told-2 : tie.Need-enum-told-2
 enum-told-2 c = search needs
 
--- src/walk.rt:111:71
 prior-requires-2 : tie.Need-prior-requires-2
 prior-requires-2 c κs = search needs
 
--- src/walk.rt:111:17
 segments-at-requires-3 : tie.Need-segments-at-requires-3
 segments-at-requires-3 c κs = search needs
 
--- src/walk.rt:120:21
 add-segments-at-2 : tie.Need-add-segments-at-2
 add-segments-at-2 c = search needs
 
--- src/walk.rt:121:21
 prior-requires-3 : tie.Need-prior-requires-3
 prior-requires-3 c κs = search needs
 
--- src/walk.rt:113:17
 segments-at-requires-4 : tie.Need-segments-at-requires-4
 segments-at-requires-4 c κs = search needs
 
--- src/walk.rt:125:37
 enum-told-3 : tie.Need-enum-told-3
 enum-told-3 c = search needs
 
--- src/walk.rt:125:25
 segments-at-requires-5 : tie.Need-segments-at-requires-5
 segments-at-requires-5 c κs = search needs
 
--- src/walk.rt:126:40
 enum-told-4 : tie.Need-enum-told-4
 enum-told-4 c = search needs
 
--- src/walk.rt:126:28
 segments-at-requires-6 : tie.Need-segments-at-requires-6
 segments-at-requires-6 c κs = search needs
 
--- src/walk.rt:127:38
 enum-told-5 : tie.Need-enum-told-5
 enum-told-5 c = search needs
 
--- src/walk.rt:127:26
 segments-at-requires-7 : tie.Need-segments-at-requires-7
 segments-at-requires-7 c κs = search needs
 
--- src/walk.rt:128:41
 enum-told-6 : tie.Need-enum-told-6
 enum-told-6 c = search needs
 
--- src/walk.rt:128:29
 segments-at-requires-8 : tie.Need-segments-at-requires-8
 segments-at-requires-8 c κs = search needs
 
--- src/walk.rt:129:37
 enum-told-7 : tie.Need-enum-told-7
 enum-told-7 c = search needs
 
--- src/walk.rt:129:25
 segments-at-requires-9 : tie.Need-segments-at-requires-9
 segments-at-requires-9 c κs = search needs
 
--- src/walk.rt:95:1
 returns : tie.Need-returns
-returns c = ?
+returns c =
+    let a = c .before .before .before .before .before .args in
+    text-alone (a .f) (a .end) (a .t) (a .after) (c .before .before .before .before .prior .ensures) (c .before .before .enum-told .given .1) (c .before .if1 .taken) (c .segments-at .ensures)
 
--- src/walk.rt:95:1
 returns-2 : tie.Need-returns-2
-returns-2 c = ?
+returns-2 c =
+    let a = c .before .before .before .before .before .args in
+    text-behind (a .f) (a .end) (a .t) (a .after) (c .before .before .before .before .prior .ensures) (c .before .before .enum-told .given .1) (c .before .if1 .left) (c .segments-at2 .ensures)
 
--- src/walk.rt:95:1
 returns-3 : tie.Need-returns-3
-returns-3 c = ?
+returns-3 c =
+    let a = c .before .before .before .before .before .before .args in
+    clear-alone (a .f) (a .end) (a .t) (a .after) (c .before .before .before .before .before .prior .ensures) (c .before .prior2 .ensures) (c .before .before .before .enum-told2 .given .1) (c .before .before .if2 .taken) (c .segments-at3 .ensures)
 
--- src/walk.rt:95:1
 returns-4 : tie.Need-returns-4
-returns-4 c = ?
+returns-4 c =
+    let a = c .before .before .before .before .before .before .args in
+    clear-behind (a .f) (a .end) (a .t) (a .after) (c .before .before .before .before .before .prior .ensures) (c .before .prior3 .ensures) (c .before .before .before .enum-told2 .given .1) (c .before .before .if2 .left) (c .segments-at4 .ensures)
 
--- src/walk.rt:95:1
 returns-5 : tie.Need-returns-5
-returns-5 c = ?
+unfolding framingAt
+returns-5 c =
+    let a = c .before .before .before .before .args in
+    header-alone (a .f) (a .end) (a .t) (a .after) (c .before .before .before .prior .ensures) (c .before .enum-told3 .given .1) refl (c .segments-at5 .ensures)
 
--- src/walk.rt:95:1
 returns-6 : tie.Need-returns-6
-returns-6 c = ?
+unfolding framingAt
+returns-6 c =
+    let a = c .before .before .before .before .args in
+    header-alone (a .f) (a .end) (a .t) (a .after) (c .before .before .before .prior .ensures) (c .before .enum-told4 .given .1) refl (c .segments-at6 .ensures)
 
--- src/walk.rt:95:1
 returns-7 : tie.Need-returns-7
-returns-7 c = ?
+unfolding framingAt
+returns-7 c =
+    let a = c .before .before .before .before .args in
+    header-alone (a .f) (a .end) (a .t) (a .after) (c .before .before .before .prior .ensures) (c .before .enum-told5 .given .1) refl (c .segments-at7 .ensures)
 
--- src/walk.rt:95:1
 returns-8 : tie.Need-returns-8
-returns-8 c = ?
+unfolding framingAt
+returns-8 c =
+    let a = c .before .before .before .before .args in
+    header-alone (a .f) (a .end) (a .t) (a .after) (c .before .before .before .prior .ensures) (c .before .enum-told6 .given .1) refl (c .segments-at8 .ensures)
 
--- src/walk.rt:95:1
 returns-9 : tie.Need-returns-9
-returns-9 c = ?
+unfolding framingAt
+returns-9 c =
+    let a = c .before .before .before .before .args in
+    header-alone (a .f) (a .end) (a .t) (a .after) (c .before .before .before .prior .ensures) (c .before .enum-told7 .given .1) refl (c .segments-at9 .ensures)
 
 pub framing-at-spec : {M : Type 1} → statement M
 framing-at-spec =

@@ -1,111 +1,111 @@
+-- `walk` meets its contract. The loop's invariant: what is left of the walk gives the whole. The measure is what is left of the line. Assumes nothing.
+use mathlib.Core.Path.{ap, _∙_}
+use Prim.Native.Nat.{_+_, _-_}
+use native.Mathlib.Omega.{arith}
+use lib.ListN.{length}
+use Rattle.block.specs.declared.Mark.the-variants.{End}
+use Rattle.block.specs.declared.Judged.the-variants.{NoStart, OutOfPlace, DleOutOfPlace}
+use Rattle.block.specs.Framings.{bumped, refusal}
+use Rattle.block.proofs.Turns.{Walking, begin, small-bump, small-widen, on, ends, stops, out, cut-anywhere}
+use borrow.Author.Needs.{needs}
 use Rattle.block.proofs.walk.walk.Statement.{statement}
 use Rattle.block.proofs.walk.walk.Tie as tie
-use Rattle.block.proofs.walk.walk.Reads as reads
-use Rattle.block.proofs.walk.walk.Lts as lts
-use Rattle.block.proofs.judge.judge.Reads as judge-reads
-use Rattle.block.proofs.signs.character.Reads as character-reads
-use Rattle.block.proofs.walk.bump.Reads as bump-reads
-use Rattle.block.proofs.walk.cut.Reads as cut-reads
-use Rattle.block.proofs.walk.framing_at.Reads as framing-at-reads
-use Rattle.block.proofs.walk.prior.Reads as prior-reads
 
 abbrev Inv-loop : tie.InvT-loop
-Inv-loop seven line t₀ f₀ i₀ t f i = ?
+Inv-loop seven line t₀ f₀ i₀ t f i = Walking seven line t f i
 
 abbrev μ-loop : tie.MeasureT-loop
-μ-loop seven line t₀ f₀ i₀ t f i = ?
+μ-loop seven line t₀ f₀ i₀ t f i = length line - i
 
--- src/walk.rt:160:5
 loop-holds : tie.Need-loop-holds Inv-loop μ-loop
-loop-holds c = ?
+loop-holds c = begin (c .before .args .seven) (c .before .args .line .now) (c .before .pre)
 
--- src/walk.rt:161:48
 shared-slice-read-character : tie.Need-shared-slice-read-character Inv-loop μ-loop
-shared-slice-read-character c = ?
+shared-slice-read-character c = search needs
 
--- src/walk.rt:161:31
 character-requires : tie.Need-character-requires Inv-loop μ-loop
-character-requires c κs = ?
+character-requires c κs = search needs
 
--- src/walk.rt:161:15
 judge-requires : tie.Need-judge-requires Inv-loop μ-loop
-judge-requires c κs = ?
+judge-requires c κs = search needs
 
--- src/walk.rt:162:24
 enum-known-k : tie.Need-enum-known-k Inv-loop μ-loop
-enum-known-k c = ?
+enum-known-k c = search needs
 
--- src/walk.rt:163:17
 bump-requires : tie.Need-bump-requires Inv-loop μ-loop
-bump-requires c κs = ?
+bump-requires c κs =
+    let l = c .before .before .before .before .before .before .before in
+    small-widen (l .loop .t) (l .loop .i) 16384 (omega (arith, l .loop .inv .within, l .loop .inv .size)) (l .loop .inv .small)
 
--- src/walk.rt:166:26
 enum-known-e : tie.Need-enum-known-e Inv-loop μ-loop
-enum-known-e c = ?
+enum-known-e c = search needs
 
--- src/walk.rt:167:21
 bump-requires-2 : tie.Need-bump-requires-2 Inv-loop μ-loop
-bump-requires-2 c κs = ?
+bump-requires-2 c κs =
+    let l = c .before .before .before .before .before .before .before in
+    small-widen (l .loop .t) (l .loop .i) 16384 (omega (arith, l .loop .inv .within, l .loop .inv .size)) (l .loop .inv .small)
 
--- src/walk.rt:168:65
 add-framing-at : tie.Need-add-framing-at Inv-loop μ-loop
-add-framing-at c = ?
+add-framing-at c = omega arith
 
--- src/walk.rt:168:39
 framing-at-requires : tie.Need-framing-at-requires Inv-loop μ-loop
-framing-at-requires c κs = ?
+framing-at-requires c κs =
+    let l = c .before .before .before .before .before .before .before .before in
+    rw (c .bump2 .ensures)
+    (small-widen (bumped End (l .loop .i) (l .loop .t)) (l .loop .i + 1) 16384 (omega (arith, c .before .before .before .before .before .before .before .loop-test .taken, l .loop .inv .size))
+    (small-bump End (l .loop .t) (l .loop .i) (l .loop .inv .small)))
 
--- src/walk.rt:168:17
 returns : tie.Need-returns Inv-loop μ-loop
-returns c = ?
+returns c =
+    let l = c .before .before .before .before .before .before .before .before .before in
+    ends (l .loop .inv) (c .before .before .before .before .before .before .before .before .loop-test .taken) (c .before .before .before .before .before .before .character .ensures)
+    (c .before .before .before .before .before .judge .ensures) (c .before .before .before .e .given .1) (c .before .bump2 .ensures) (c .framing-at .ensures)
 
--- src/walk.rt:171:41
 enum-told : tie.Need-enum-told Inv-loop μ-loop
-enum-told c = ?
+enum-told c = search needs
 
--- src/walk.rt:171:17
 returns-2 : tie.Need-returns-2 Inv-loop μ-loop
-returns-2 c = ?
+returns-2 c =
+    let l = c .before .before .before .before .before .before in
+    stops (l .loop .inv) (c .before .before .before .before .before .loop-test .taken) (c .before .before .before .character .ensures) (c .before .before .judge .ensures) NoStart (c .enum-told .given .1)
 
--- src/walk.rt:174:65
 enum-told-2 : tie.Need-enum-told-2 Inv-loop μ-loop
-enum-told-2 c = ?
+enum-told-2 c = search needs
 
--- src/walk.rt:174:17
 returns-3 : tie.Need-returns-3 Inv-loop μ-loop
-returns-3 c = ?
+returns-3 c =
+    let l = c .before .before .before .before .before .before in
+    stops (l .loop .inv) (c .before .before .before .before .before .loop-test .taken) (c .before .before .before .character .ensures) (c .before .before .judge .ensures) OutOfPlace (c .enum-told2 .given .1)
 
--- src/walk.rt:177:75
 enum-told-3 : tie.Need-enum-told-3 Inv-loop μ-loop
-enum-told-3 c = ?
+enum-told-3 c = search needs
 
--- src/walk.rt:177:75
 prior-requires : tie.Need-prior-requires Inv-loop μ-loop
-prior-requires c κs = ?
+prior-requires c κs = search needs
 
--- src/walk.rt:177:17
 returns-4 : tie.Need-returns-4 Inv-loop μ-loop
-returns-4 c = ?
+returns-4 c =
+    let l = c .before .before .before .before .before .before .before in
+    ap (λ n. refusal 14 n) (c .prior .ensures) ∙ stops (l .loop .inv) (c .before .before .before .before .before .before .loop-test .taken) (c .before .before .before .before .character .ensures) (c .before .before .before .judge .ensures) DleOutOfPlace (c .before .enum-told3 .given .1)
 
--- src/walk.rt:180:9
 add-i : tie.Need-add-i Inv-loop μ-loop
-add-i c = ?
+add-i c = omega arith
 
--- src/walk.rt:160:5
 loop-less : tie.Need-loop-less Inv-loop μ-loop
-loop-less c = ?
+loop-less c = omega arith
 
--- src/walk.rt:160:5
 loop-again : tie.Need-loop-again Inv-loop μ-loop
-loop-again c = ?
+loop-again c =
+    let l = c .before .before .before .before .before .before .before .before in
+    on (l .loop .inv) (c .before .before .before .before .before .before .before .loop-test .taken) (c .before .before .before .before .before .character .ensures) (c .before .before .before .before .judge .ensures) (c .before .before .k .given .1) (c .bump .ensures)
 
--- src/walk.rt:182:5
 cut-requires : tie.Need-cut-requires Inv-loop μ-loop
-cut-requires c κs = ?
+cut-requires c κs = search needs
 
--- src/walk.rt:148:1
 returns-5 : tie.Need-returns-5 Inv-loop μ-loop
-returns-5 c = ?
+returns-5 c =
+    let l = c .before .before in
+    c .cut .ensures ∙ cut-anywhere (l .loop .t) (l .loop .i) (l .loop .f) ∙ out (l .loop .inv) (c .before .loop-test .left)
 
 pub walk-spec : {M : Type 1} → statement M
 walk-spec =
