@@ -1,5 +1,6 @@
 pub mod Characters
 pub mod FramingCases
+pub mod Kept
 pub mod NoSign
 pub mod Sums
 pub mod Turns

@@ -14,6 +14,10 @@ unfolding xorAll
 xorAll-append sum [] ys = refl
 xorAll-append sum (x ∷ xs) ys = xorAll-append (bitXor sum x) xs ys
 
+pub xorAll-nil : (sum : ℕ) → xorAll sum [] ≡ sum
+unfolding xorAll
+xorAll-nil sum = refl
+
 -- ---- a loop over a slice: what is left gives the whole
 
 pub record Summing (start : ℕ) (part : List ℕ) (sum i : ℕ) : Type 0 where

@@ -1,61 +1,62 @@
+-- `copy_part` meets its contract. The loop's invariant: what is left to store, laid over the output, gives the whole. The measure is what is left. Assumes nothing.
+use Prim.Native.Nat.{_-_, _+_, _≤_}
+use mathlib.Core.Bool.{false}
+use mathlib.Core.Path.{_∙_}
+use native.Mathlib.Omega.{arith}
+use lib.ListN.{length}
+use Rattle.block.specs.Framings.{keptBytes}
+use Rattle.block.proofs.Kept.{Copying, copying, room, copied, stored}
+use borrow.Author.Needs.{needs}
 use Rattle.block.proofs.segments.copy_part.Statement.{statement}
 use Rattle.block.proofs.segments.copy_part.Tie as tie
-use Rattle.block.proofs.segments.copy_part.Reads as reads
-use Rattle.block.proofs.segments.copy_part.Lts as lts
-use Rattle.block.proofs.segments.is_kept.Reads as is-kept-reads
-use Rattle.block.proofs.segments.next_behind.Reads as next-behind-reads
-use Rattle.block.proofs.segments.put_if.Reads as put-if-reads
-use Rattle.block.proofs.signs.character.Reads as character-reads
 
 abbrev Inv-loop : tie.InvT-loop
-Inv-loop seven clear part out₀ at n₀ behind₀ i₀ out n behind i = ?
+Inv-loop seven clear part out₀ at n₀ behind₀ i₀ out n behind i = Copying clear seven part out₀ at out n behind i × (at + length (keptBytes clear seven false part) ≤ length out₀)
 
 abbrev μ-loop : tie.MeasureT-loop
-μ-loop seven clear part out₀ at n₀ behind₀ i₀ out n behind i = ?
+μ-loop seven clear part out₀ at n₀ behind₀ i₀ out n behind i = length part - i
 
--- src/segments.rt:134:5
 loop-holds : tie.Need-loop-holds Inv-loop μ-loop
-loop-holds c = ?
+loop-holds c =
+    let a = c .before .before .args in
+    (copying (a .clear) (a .seven) (a .part .now) (a .out .now) (a .at), c .before .before .pre)
 
--- src/segments.rt:135:17
 shared-slice-read-b : tie.Need-shared-slice-read-b Inv-loop μ-loop
-shared-slice-read-b c = ?
+shared-slice-read-b c = search needs
 
--- src/segments.rt:139:13
 is-kept-requires : tie.Need-is-kept-requires Inv-loop μ-loop
-is-kept-requires c κs = ?
+is-kept-requires c κs = search needs
 
--- src/segments.rt:140:13
 character-requires : tie.Need-character-requires Inv-loop μ-loop
-character-requires c κs = ?
+character-requires c κs = search needs
 
--- src/segments.rt:136:9
 put-if-requires : tie.Need-put-if-requires Inv-loop μ-loop
-put-if-requires c κs = ?
+put-if-requires c κs =
+    let l = c .before .before .before .before .before in
+    room (l .loop .inv .0) (c .before .before .before .before .loop-test .taken) (c .before .is-kept .ensures) (c .character .ensures) (l .loop .inv .1)
 
--- src/segments.rt:142:9
 next-behind-requires : tie.Need-next-behind-requires Inv-loop μ-loop
-next-behind-requires c κs = ?
+next-behind-requires c κs = search needs
 
--- src/segments.rt:143:9
 add-i : tie.Need-add-i Inv-loop μ-loop
-add-i c = ?
+add-i c = omega arith
 
--- src/segments.rt:134:5
 loop-less : tie.Need-loop-less Inv-loop μ-loop
-loop-less c = ?
+loop-less c = omega arith
 
--- src/segments.rt:134:5
 loop-again : tie.Need-loop-again Inv-loop μ-loop
-loop-again c = ?
+loop-again c =
+    let l = c .before .before .before .before .before .before .before .before .before in (
+      copied (l .loop .inv .0) (c .before .before .before .before .before .before .before .before .loop-test .taken) (c .before .before .before .before .before .is-kept .ensures) (c .before .before .before .before .character .ensures) (c .before .before .before .put-if .ensures .0)
+          (c .before .before .before .put-if .ensures .1) (c .before .before .before .put-if .kept .0) (c .next-behind .ensures),
+      l .loop .inv .1,
+    )
 
--- src/segments.rt:127:1
 same-length : tie.Need-same-length Inv-loop μ-loop
-same-length c = ?
+same-length c = c .before .loop .inv .0 .size
 
--- src/segments.rt:127:1
 returns : tie.Need-returns Inv-loop μ-loop
-returns c = ?
+returns c = stored (c .before .loop .inv .0) (c .loop-test .left)
 
 pub copy-part-spec : {M : Type 1} → statement M
 copy-part-spec =

@@ -1,52 +1,46 @@
+-- `enter_part` meets its contract. The loop's invariant: what is left of the segment gives the whole. The measure is what is left. Assumes nothing.
+use Prim.Native.Nat.{_-_}
+use native.Mathlib.Omega.{arith}
+use mathlib.Core.Bool.{false}
+use lib.ListN.{length}
+use Rattle.cyclic.specs.Register.{enterAllByTable}
+use Rattle.block.proofs.Kept.{Folding, begin, turn, whole, enterAll-nil, enterAll-append}
+use borrow.Author.Needs.{needs}
 use Rattle.block.proofs.segments.enter_part.Statement.{statement}
 use Rattle.block.proofs.segments.enter_part.Tie as tie
-use Rattle.block.proofs.segments.enter_part.Reads as reads
-use Rattle.block.proofs.segments.enter_part.Lts as lts
-use Rattle.block.proofs.segments.enter_if.Reads as enter-if-reads
-use Rattle.block.proofs.segments.is_kept.Reads as is-kept-reads
-use Rattle.block.proofs.segments.next_behind.Reads as next-behind-reads
 
 abbrev Inv-loop : tie.InvT-loop
-Inv-loop table start clear part register₀ behind₀ i₀ register behind i = ?
+Inv-loop table start clear part register₀ behind₀ i₀ register behind i = Folding (enterAllByTable table) (enterAll-nil table) (enterAll-append table) clear false start part register behind i
 
 abbrev μ-loop : tie.MeasureT-loop
-μ-loop table start clear part register₀ behind₀ i₀ register behind i = ?
+μ-loop table start clear part register₀ behind₀ i₀ register behind i = length part - i
 
--- src/segments.rt:69:5
 loop-holds : tie.Need-loop-holds Inv-loop μ-loop
-loop-holds c = ?
+loop-holds c = begin (enterAllByTable (c .before .args .table .now)) (enterAll-nil (c .before .args .table .now)) (enterAll-append (c .before .args .table .now)) (c .before .args .clear) false (c .before .args .start) (c .before .args .part .now)
 
--- src/segments.rt:70:17
 shared-slice-read-b : tie.Need-shared-slice-read-b Inv-loop μ-loop
-shared-slice-read-b c = ?
+shared-slice-read-b c = search needs
 
--- src/segments.rt:71:46
 is-kept-requires : tie.Need-is-kept-requires Inv-loop μ-loop
-is-kept-requires c κs = ?
+is-kept-requires c κs = search needs
 
--- src/segments.rt:71:9
 enter-if-requires : tie.Need-enter-if-requires Inv-loop μ-loop
-enter-if-requires c κs = ?
+enter-if-requires c κs = search needs
 
--- src/segments.rt:72:9
 next-behind-requires : tie.Need-next-behind-requires Inv-loop μ-loop
-next-behind-requires c κs = ?
+next-behind-requires c κs = search needs
 
--- src/segments.rt:73:9
 add-i : tie.Need-add-i Inv-loop μ-loop
-add-i c = ?
+add-i c = omega arith
 
--- src/segments.rt:69:5
 loop-less : tie.Need-loop-less Inv-loop μ-loop
-loop-less c = ?
+loop-less c = omega arith
 
--- src/segments.rt:69:5
 loop-again : tie.Need-loop-again Inv-loop μ-loop
-loop-again c = ?
+loop-again c =     turn (enterAllByTable (c .before .before .before .before .before .before .before .args .table .now)) (enterAll-nil (c .before .before .before .before .before .before .before .args .table .now)) (enterAll-append (c .before .before .before .before .before .before .before .args .table .now)) (c .before .before .before .before .before .loop .inv) (c .before .before .before .before .loop-test .taken) (c .before .before .is-kept .ensures) (c .before .enter-if .ensures) (c .next-behind .ensures)
 
--- src/segments.rt:63:1
 returns : tie.Need-returns Inv-loop μ-loop
-returns c = ?
+returns c = whole (enterAllByTable (c .before .before .before .args .table .now)) (enterAll-nil (c .before .before .before .args .table .now)) (enterAll-append (c .before .before .before .args .table .now)) (c .before .loop .inv) (c .loop-test .left)
 
 pub enter-part-spec : {M : Type 1} → statement M
 enter-part-spec =

@@ -1,19 +1,19 @@
+-- `next_behind` meets its contract. Assumes nothing.
+use Rattle.block.specs.Framings.{nextBehind}
 use Rattle.block.proofs.segments.next_behind.Statement.{statement}
 use Rattle.block.proofs.segments.next_behind.Tie as tie
-use Rattle.block.proofs.segments.next_behind.Reads as reads
-use Rattle.block.proofs.segments.next_behind.Lts as lts
 
--- src/segments.rt:42:1
 returns : tie.Need-returns
-returns c = ?
+unfolding nextBehind
+returns c = rw (c .before .if1 .taken, c .if2 .taken)
 
--- src/segments.rt:42:1
 returns-2 : tie.Need-returns-2
-returns-2 c = ?
+unfolding nextBehind
+returns-2 c = rw (c .before .if1 .taken, c .if2 .left)
 
--- src/segments.rt:42:1
 returns-3 : tie.Need-returns-3
-returns-3 c = ?
+unfolding nextBehind
+returns-3 c = rw (c .if1 .left)
 
 pub next-behind-spec : {M : Type 1} → statement M
 next-behind-spec = tie.close (tie.spec returns returns-2 returns-3)

@@ -1,15 +1,15 @@
+-- `sum_if` meets its contract. Assumes nothing.
+use Rattle.block.specs.Check.{xorAll}
 use Rattle.block.proofs.segments.sum_if.Statement.{statement}
 use Rattle.block.proofs.segments.sum_if.Tie as tie
-use Rattle.block.proofs.segments.sum_if.Reads as reads
-use Rattle.block.proofs.segments.sum_if.Lts as lts
 
--- src/segments.rt:78:1
 returns : tie.Need-returns
-returns c = ?
+unfolding xorAll
+returns c = rw (c .if1 .taken)
 
--- src/segments.rt:78:1
 returns-2 : tie.Need-returns-2
-returns-2 c = ?
+unfolding xorAll
+returns-2 c = rw (c .if1 .left)
 
 pub sum-if-spec : {M : Type 1} → statement M
 sum-if-spec = tie.close (tie.spec returns returns-2)

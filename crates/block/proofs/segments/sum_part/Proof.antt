@@ -1,52 +1,47 @@
+-- `sum_part` meets its contract. The loop's invariant: what is left of the segment gives the whole. The measure is what is left. Assumes nothing.
+use Prim.Native.Nat.{_-_}
+use native.Mathlib.Omega.{arith}
+use mathlib.Core.Bool.{true}
+use lib.ListN.{length}
+use Rattle.block.specs.Check.{xorAll}
+use Rattle.block.proofs.Kept.{Folding, begin, turn, whole}
+use Rattle.block.proofs.Sums.{xorAll-nil, xorAll-append}
+use borrow.Author.Needs.{needs}
 use Rattle.block.proofs.segments.sum_part.Statement.{statement}
 use Rattle.block.proofs.segments.sum_part.Tie as tie
-use Rattle.block.proofs.segments.sum_part.Reads as reads
-use Rattle.block.proofs.segments.sum_part.Lts as lts
-use Rattle.block.proofs.segments.is_kept.Reads as is-kept-reads
-use Rattle.block.proofs.segments.next_behind.Reads as next-behind-reads
-use Rattle.block.proofs.segments.sum_if.Reads as sum-if-reads
 
 abbrev Inv-loop : tie.InvT-loop
-Inv-loop start clear part sum₀ behind₀ i₀ sum behind i = ?
+Inv-loop start clear part sum₀ behind₀ i₀ sum behind i = Folding xorAll xorAll-nil xorAll-append clear true start part sum behind i
 
 abbrev μ-loop : tie.MeasureT-loop
-μ-loop start clear part sum₀ behind₀ i₀ sum behind i = ?
+μ-loop start clear part sum₀ behind₀ i₀ sum behind i = length part - i
 
--- src/segments.rt:91:5
 loop-holds : tie.Need-loop-holds Inv-loop μ-loop
-loop-holds c = ?
+loop-holds c = begin xorAll xorAll-nil xorAll-append (c .before .args .clear) true (c .before .args .start) (c .before .args .part .now)
 
--- src/segments.rt:92:17
 shared-slice-read-b : tie.Need-shared-slice-read-b Inv-loop μ-loop
-shared-slice-read-b c = ?
+shared-slice-read-b c = search needs
 
--- src/segments.rt:93:27
 is-kept-requires : tie.Need-is-kept-requires Inv-loop μ-loop
-is-kept-requires c κs = ?
+is-kept-requires c κs = search needs
 
--- src/segments.rt:93:9
 sum-if-requires : tie.Need-sum-if-requires Inv-loop μ-loop
-sum-if-requires c κs = ?
+sum-if-requires c κs = search needs
 
--- src/segments.rt:94:9
 next-behind-requires : tie.Need-next-behind-requires Inv-loop μ-loop
-next-behind-requires c κs = ?
+next-behind-requires c κs = search needs
 
--- src/segments.rt:95:9
 add-i : tie.Need-add-i Inv-loop μ-loop
-add-i c = ?
+add-i c = omega arith
 
--- src/segments.rt:91:5
 loop-less : tie.Need-loop-less Inv-loop μ-loop
-loop-less c = ?
+loop-less c = omega arith
 
--- src/segments.rt:91:5
 loop-again : tie.Need-loop-again Inv-loop μ-loop
-loop-again c = ?
+loop-again c =     turn xorAll xorAll-nil xorAll-append (c .before .before .before .before .before .loop .inv) (c .before .before .before .before .loop-test .taken) (c .before .before .is-kept .ensures) (c .before .sum-if .ensures) (c .next-behind .ensures)
 
--- src/segments.rt:85:1
 returns : tie.Need-returns Inv-loop μ-loop
-returns c = ?
+returns c = whole xorAll xorAll-nil xorAll-append (c .before .loop .inv) (c .loop-test .left)
 
 pub sum-part-spec : {M : Type 1} → statement M
 sum-part-spec =
