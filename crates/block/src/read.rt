@@ -77,11 +77,12 @@ fn find_framing(m: Method, p: Parity, line: &[u8]) -> WalkEnd
     if line.len() > 16384 {
         return WalkEnd::Refused(ReadRefusal::TooLong);
     }
-    if is_seven(m) {
-        let at = first_wrong(p, line);
-        if at < line.len() {
-            return WalkEnd::Refused(ReadRefusal::WrongParity(BytePlace(at)));
-        }
+    if !is_seven(m) {
+        return walk_closed(m, line);
+    }
+    let at = first_wrong(p, line);
+    if at < line.len() {
+        return WalkEnd::Refused(ReadRefusal::WrongParity(BytePlace(at)));
     }
     walk_closed(m, line)
 }

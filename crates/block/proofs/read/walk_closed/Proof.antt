@@ -1,51 +1,59 @@
+-- `walk_closed` meets its contract: questions 16 and 17 are put to what the walk told. Assumes nothing.
+use mathlib.Core.Path.{_≡_, sym, ap, _∙_}
+use Prim.Native.Nat.{_+_}
+use native.Mathlib.Omega.{arith}
+use mathlib.Core.Bool.{Bool}
+use Rattle.block.specs.Characters.{isSeven}
+use Rattle.block.specs.Check.{checkLength}
+use Rattle.block.specs.Framings.{ofWalk}
+use Rattle.block.proofs.Reading.{told-as, check-small, after-small, refused-as, wrong-length, too-many, all-passed}
 use borrow.Author.Needs.{needs}
 use Rattle.block.proofs.read.walk_closed.Statement.{statement}
 use Rattle.block.proofs.read.walk_closed.Tie as tie
-use Rattle.block.proofs.read.walk_closed.Reads as reads
-use Rattle.block.proofs.read.walk_closed.Lts as lts
-use Rattle.block.proofs.read.check_length.Reads as check-length-reads
-use Rattle.block.proofs.signs.is_seven.Reads as is-seven-reads
-use Rattle.block.proofs.walk.walk.Reads as walk-reads
 
--- src/read.rt:59:23
 is-seven-requires : tie.Need-is-seven-requires
 is-seven-requires c κs = search needs
 
--- src/read.rt:59:9
 walk-requires : tie.Need-walk-requires
 walk-requires c κs = search needs
 
--- src/read.rt:60:24
 enum-known-walked : tie.Need-enum-known-walked
 enum-known-walked c = search needs
 
--- src/read.rt:61:9
 enum-told : tie.Need-enum-told
 enum-told c = search needs
 
--- src/read.rt:61:9
 returns : tie.Need-returns
-returns c = ?
+returns c =
+    let a = c .before .before .before .before .before .args in
+    refused-as (a .m) (a .line .now) (c .before .before .before .is-seven .ensures) (c .before .before .walk .ensures) (c .enum-told .given .1)
 
--- src/read.rt:64:30
 check-length-requires : tie.Need-check-length-requires
 check-length-requires c κs = search needs
 
--- src/read.rt:64:22
 add-if1 : tie.Need-add-if1
-add-if1 c = ?
+add-if1 c =
+    let a = c .before .before .before .before .before .before .before .args in
+    let e = told-as (a .m) (a .line .now) (c .before .before .before .before .before .is-seven .ensures) (c .before .before .before .before .walk .ensures) (c .before .before .walked .given .1) in
+    omega (arith, after-small (a .m) (a .line .now) _ e (c .before .before .before .before .before .before .before .pre), c .check-length .ensures, check-small (a .m))
 
--- src/read.rt:65:9
 returns-2 : tie.Need-returns-2
-returns-2 c = ?
+returns-2 c =
+    let a = c .before .before .before .before .before .before .before .before .args in
+    let e = told-as (a .m) (a .line .now) (c .before .before .before .before .before .before .is-seven .ensures) (c .before .before .before .before .before .walk .ensures) (c .before .before .before .walked .given .1) in
+    sym (wrong-length (a .m) (a .line .now) _ e (λ q. c .if1 .taken (omega (arith, c .before .check-length .ensures))))
 
--- src/read.rt:68:9
 returns-3 : tie.Need-returns-3
-returns-3 c = ?
+returns-3 c =
+    let a = c .before .before .before .before .before .before .before .before .before .before .args in
+    let e = told-as (a .m) (a .line .now) (c .before .before .before .before .before .before .before .before .is-seven .ensures) (c .before .before .before .before .before .before .before .walk .ensures) (c .before .before .before .before .before .walked .given .1) in
+    sym (too-many (a .m) (a .line .now) _ e (omega (arith, c .before .before .if1 .left, c .before .before .before .check-length .ensures)) (c .if2 .taken))
 
--- src/read.rt:55:1
 returns-4 : tie.Need-returns-4
-returns-4 c = ?
+returns-4 c =
+    let a = c .before .before .before .before .before .before .before .before .before .before .args in
+    let e = told-as (a .m) (a .line .now) (c .before .before .before .before .before .before .before .before .is-seven .ensures) (c .before .before .before .before .before .before .before .walk .ensures) (c .before .before .before .before .before .walked .given .1) in
+    sym (all-passed (a .m) (a .line .now) _ e (omega (arith, c .before .before .if1 .left, c .before .before .before .check-length .ensures)) (c .if2 .left))
 
 pub walk-closed-spec : {M : Type 1} → statement M
 walk-closed-spec =
