@@ -1,4 +1,5 @@
 pub mod Characters
+pub mod CheckLaws
 pub mod FramingCases
 pub mod FramingLaws
 pub mod Kept

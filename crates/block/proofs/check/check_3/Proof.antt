@@ -1,27 +1,32 @@
+-- `check_3` meets its contract: a register that began at the method's start holds its formula. Assumes nothing.
+use mathlib.Core.Bool.{false}
+use lib.Dec.{lit<}
+use Rattle.bits.specs.Bytes.{bitsOf}
+use Rattle.cyclic.specs.Check.{method3}
+use Rattle.cyclic.proofs.Table.{entered-by}
+use Rattle.cyclic.proofs.Methods.{width-3, check-of}
+use Rattle.block.specs.Framings.{countedIn}
+use Rattle.block.proofs.CheckLaws.{start-3}
 use borrow.Author.Needs.{needs}
 use Rattle.block.proofs.check.check_3.Statement.{statement}
 use Rattle.block.proofs.check.check_3.Tie as tie
-use Rattle.block.proofs.check.check_3.Reads as reads
-use Rattle.block.proofs.check.check_3.Lts as lts
-use Rattle.block.proofs.check.enter_counted.Reads as enter-counted-reads
-use Rattle.cyclic.proofs.method3.Cyclic3.check.Reads as check-reads
-use Rattle.cyclic.proofs.method3.Cyclic3.table.Reads as table-reads
 
--- src/check.rt:65:17
 table-requires : tie.Need-table-requires
 table-requires c κs = search needs
 
--- src/check.rt:66:9
 enter-counted-requires : tie.Need-enter-counted-requires
 enter-counted-requires c κs = search needs
 
--- src/check.rt:67:5
 check-requires : tie.Need-check-requires
 check-requires c κs = search needs
 
--- src/check.rt:61:1
 returns : tie.Need-returns
-returns c = ?
+returns c =
+    let a = c .before .before .before .before .before .args in
+    let counted = countedIn false (a .f) (a .line .now) in
+    check-of 16 method3 width-3 (lit< tt) (bitsOf counted) 0xffff (c .before .enter-counted .result) (c .check .result) start-3
+    (entered-by 8 (method3 .generator) (width-3 .generator .width) 0xffff counted (c .before .before .before .table .ensures) (c .before .enter-counted .ensures) (lit< tt))
+    (c .check .ensures)
 
 pub check-3-spec : {M : Type 1} → statement M
 check-3-spec = tie.close (tie.spec table-requires enter-counted-requires check-requires returns)

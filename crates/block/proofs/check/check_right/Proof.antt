@@ -1,73 +1,76 @@
+-- `check_right` meets its contract, method by method. Assumes nothing.
+use mathlib.Core.Bool.{true, false}
+use mathlib.Core.Path.{_∙_, ap}
+use Prim.Native.Nat.{_+_}
+use native.Mathlib.Omega.{arith}
+use lib.ListN.{drop}
+use Rattle.bits.specs.Strings.{same}
+use Rattle.bits.specs.Bytes.{bitsOf}
+use Rattle.block.specs.Check.{checkLength, checkOf}
+use Rattle.block.specs.Framings.{countedIn}
+use Rattle.block.proofs.CheckLaws.{no-check, matrix-right}
 use borrow.Author.Needs.{needs}
 use Rattle.block.proofs.check.check_right.Statement.{statement}
 use Rattle.block.proofs.check.check_right.Tie as tie
-use Rattle.block.proofs.check.check_right.Reads as reads
-use Rattle.block.proofs.check.check_right.Lts as lts
-use Rattle.block.proofs.check.check_3.Reads as check-3-reads
-use Rattle.block.proofs.check.check_4.Reads as check-4-reads
-use Rattle.block.proofs.check.is_sent.Reads as is-sent-reads
-use Rattle.block.proofs.check.sum_counted.Reads as sum-counted-reads
-use Rattle.block.proofs.signs.with_parity.Reads as with-parity-reads
 
--- src/check.rt:100:27
 enum-told : tie.Need-enum-told
 enum-told c = search needs
 
--- src/check.rt:101:27
 enum-told-2 : tie.Need-enum-told-2
 enum-told-2 c = search needs
 
--- src/check.rt:101:27
 shared-slice-read-result : tie.Need-shared-slice-read-result
-shared-slice-read-result c = ?
+shared-slice-read-result c = omega (arith, c .before .before .before .before .pre .1 ∙ ap (λ m. c .before .before .before .before .args .f .after + checkLength m) (c .before .enum-told2 .given .1))
 
--- src/check.rt:101:57
 sum-counted-requires : tie.Need-sum-counted-requires
 sum-counted-requires c κs = search needs
 
--- src/check.rt:101:42
 with-parity-requires : tie.Need-with-parity-requires
 with-parity-requires c κs = search needs
 
--- src/check.rt:102:35
 enum-told-3 : tie.Need-enum-told-3
 enum-told-3 c = search needs
 
--- src/check.rt:102:35
 check-3-requires : tie.Need-check-3-requires
 check-3-requires c κs = search needs
 
--- src/check.rt:102:27
 is-sent-requires : tie.Need-is-sent-requires
-is-sent-requires c κs = ?
+is-sent-requires c κs = c .before .before .before .before .pre .1 ∙ ap (λ m. c .before .before .before .before .args .f .after + checkLength m) (c .before .enum-told3 .given .1)
 
--- src/check.rt:103:46
 enum-told-4 : tie.Need-enum-told-4
 enum-told-4 c = search needs
 
--- src/check.rt:103:46
 check-4-requires : tie.Need-check-4-requires
 check-4-requires c κs = search needs
 
--- src/check.rt:103:38
 is-sent-requires-2 : tie.Need-is-sent-requires-2
-is-sent-requires-2 c κs = ?
+is-sent-requires-2 c κs = c .before .before .before .before .pre .1 ∙ ap (λ m. c .before .before .before .before .args .f .after + checkLength m) (c .before .enum-told4 .given .1)
 
--- src/check.rt:93:1
 returns : tie.Need-returns
-returns c = ?
+returns c =
+    let a = c .before .before .before .args in
+    rw (c .enum-told .given .1) (no-check (a .p) (a .line .now) (countedIn true (a .f) (a .line .now)) (a .f .after) (c .before .before .before .pre .1 ∙ ap (λ m. c .before .before .before .args .f .after + checkLength m) (c .enum-told .given .1)))
 
--- src/check.rt:93:1
 returns-2 : tie.Need-returns-2
-returns-2 c = ?
+returns-2 c =
+    let a = c .before .before .before .before .before .before .args in
+    rw (c .before .before .before .enum-told2 .given .1)
+    (matrix-right (a .p) (a .line .now) (countedIn true (a .f) (a .line .now)) (a .f .after) (c .before .before .before .before .before .before .pre .1 ∙ ap (λ m. c .before .before .before .before .before .before .args .f .after + checkLength m) (c .before .before .before .enum-told2 .given .1))
+    (c .before .before .before .before .before .shared-slice-known .given (a .f .after) .fits) (c .before .sum-counted .ensures) (c .with-parity .ensures))
 
--- src/check.rt:93:1
 returns-3 : tie.Need-returns-3
-returns-3 c = ?
+unfolding checkOf
+returns-3 c =
+    let a = c .before .before .before .before .before .args in
+    rw (c .before .before .enum-told3 .given .1)
+    (c .is-sent .ensures ∙ ap (same (bitsOf (drop (a .f .after) (a .line .now)))) (c .before .check-3 .ensures))
 
--- src/check.rt:93:1
 returns-4 : tie.Need-returns-4
-returns-4 c = ?
+unfolding checkOf
+returns-4 c =
+    let a = c .before .before .before .before .before .args in
+    rw (c .before .before .enum-told4 .given .1)
+    (c .is-sent2 .ensures ∙ ap (same (bitsOf (drop (a .f .after) (a .line .now)))) (c .before .check-4 .ensures))
 
 pub check-right-spec : {M : Type 1} → statement M
 check-right-spec =
