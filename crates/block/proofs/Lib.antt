@@ -2,8 +2,10 @@ pub mod Characters
 pub mod CheckLaws
 pub mod FramingCases
 pub mod FramingLaws
+pub mod HandedOut
 pub mod Kept
 pub mod NoSign
+pub mod ReadBlock
 pub mod Reading
 pub mod Sums
 pub mod Turns

@@ -1,65 +1,82 @@
+-- `read_block` meets its contract: a framing, then questions 18 and 19, then header and text handed out. Assumes nothing.
+use mathlib.Core.Path.{sym, ap, _∙_}
+use native.Mathlib.Omega.{arith}
+use lib.ListN.{length}
+use borrow.Author.Tests.{not-true, not-false}
+use Rattle.block.specs.Read.{readOutput}
+use Rattle.block.specs.Answers.{ofReadAnswer}
+use Rattle.block.specs.Framings.{ofWalk, ofUnframed}
+use Rattle.block.proofs.ReadBlock.{found-framing, ordered, closed, lengths-small, kept-length, wrong-check, output-short, is-taken, taken-numbers, taken-output, no-framing, kept-output}
 use borrow.Author.Needs.{needs}
 use Rattle.block.proofs.read.read_block.Statement.{statement}
 use Rattle.block.proofs.read.read_block.Tie as tie
-use Rattle.block.proofs.read.read_block.Reads as reads
-use Rattle.block.proofs.read.read_block.Lts as lts
-use Rattle.block.proofs.check.check_right.Reads as check-right-reads
-use Rattle.block.proofs.read.find_framing.Reads as find-framing-reads
-use Rattle.block.proofs.read.hand_out.Reads as hand-out-reads
-use Rattle.block.proofs.read.unframed.Reads as unframed-reads
-use Rattle.block.proofs.signs.is_seven.Reads as is-seven-reads
 
--- src/read.rt:118:9
 find-framing-requires : tie.Need-find-framing-requires
 find-framing-requires c κs = search needs
 
--- src/read.rt:119:24
 enum-known-walked : tie.Need-enum-known-walked
 enum-known-walked c = search needs
 
--- src/read.rt:120:9
 enum-told : tie.Need-enum-told
 enum-told c = search needs
 
--- src/read.rt:120:9
 unframed-requires : tie.Need-unframed-requires
 unframed-requires c κs = search needs
 
--- src/read.rt:120:9
 returns : tie.Need-returns
-returns c = ?
+returns c =
+    let a = c .before .before .before .before .before .before .args in
+    let e = no-framing (a .method) (a .parity) (a .line .now) (length (a .out .now)) (c .before .before .before .find-framing .ensures) (c .before .enum-told .given .1) in
+    (c .unframed .ensures ∙ ap (λ w. ofUnframed (ofWalk w)) (c .before .enum-told .given .1) ∙ sym (ap ofReadAnswer e), kept-output (a .out .now) e)
 
--- src/read.rt:122:9
 check-right-requires : tie.Need-check-right-requires
-check-right-requires c κs = ?
+check-right-requires c κs =
+    let a = c .before .before .before .before .before .before .args in
+    let x = found-framing (a .method) (a .parity) (a .line .now) _ (sym (c .before .before .before .find-framing .ensures) ∙ ap ofWalk (c .before .walked .given .1)) in
+    (ordered (a .method) (a .parity) (a .line .now) _ x, closed (a .method) (a .parity) (a .line .now) _ x)
 
--- src/read.rt:123:9
 returns-2 : tie.Need-returns-2
-returns-2 c = ?
+returns-2 c =
+    let a = c .before .before .before .before .before .before .before .before .args in
+    let x = found-framing (a .method) (a .parity) (a .line .now) _ (sym (c .before .before .before .before .before .find-framing .ensures) ∙ ap ofWalk (c .before .before .before .walked .given .1)) in
+    let e = wrong-check (a .method) (a .parity) (a .line .now) _ x (c .before .check-right .ensures) (length (a .out .now)) (not-true _ (c .if1 .taken)) in
+    (sym (ap ofReadAnswer e), kept-output (a .out .now) e)
 
--- src/read.rt:125:18
 add-needed : tie.Need-add-needed
-add-needed c = ?
+add-needed c =
+    let a = c .before .before .before .before .before .before .before .before .before .args in
+    let x = found-framing (a .method) (a .parity) (a .line .now) _ (sym (c .before .before .before .before .before .before .find-framing .ensures) ∙ ap ofWalk (c .before .before .before .before .walked .given .1)) in
+    let s = lengths-small (a .method) (a .parity) (a .line .now) _ x in
+    omega (arith, s .0, s .1)
 
--- src/read.rt:127:9
 returns-3 : tie.Need-returns-3
-returns-3 c = ?
+returns-3 c =
+    let a = c .before .before .before .before .before .before .before .before .before .before .args in
+    let x = found-framing (a .method) (a .parity) (a .line .now) _ (sym (c .before .before .before .before .before .before .before .find-framing .ensures) ∙ ap ofWalk (c .before .before .before .before .before .walked .given .1)) in
+    let e = output-short (a .method) (a .parity) (a .line .now) _ x (c .before .before .before .check-right .ensures) (length (a .out .now)) (not-false _ (c .before .before .if1 .left)) (c .if2 .taken) in
+    (sym (ap ofReadAnswer e), kept-output (a .out .now) e)
 
--- src/read.rt:129:14
 is-seven-requires : tie.Need-is-seven-requires
 is-seven-requires c κs = search needs
 
--- src/read.rt:129:5
 hand-out-requires : tie.Need-hand-out-requires
-hand-out-requires c κs = ?
+hand-out-requires c κs =
+    let a = c .before .before .before .before .before .before .before .before .before .before .before .before .args in
+    let x = found-framing (a .method) (a .parity) (a .line .now) _ (sym (c .before .before .before .before .before .before .before .before .before .find-framing .ensures) ∙ ap ofWalk (c .before .before .before .before .before .before .before .walked .given .1)) in
+    (ordered (a .method) (a .parity) (a .line .now) _ x, rw (c .before .is-seven .ensures) (omega (arith, kept-length (a .method) (a .parity) (a .line .now) _ x, c .before .before .if2 .left)))
 
--- src/read.rt:115:1
 same-length : tie.Need-same-length
 same-length c = search needs
 
--- src/read.rt:115:1
 returns-4 : tie.Need-returns-4
-returns-4 c = ?
+returns-4 c =
+    let a = c .before .before .before .before .before .before .before .before .before .before .before .before .before .before .before .args in
+    let x = found-framing (a .method) (a .parity) (a .line .now) _ (sym (c .before .before .before .before .before .before .before .before .before .before .before .before .find-framing .ensures) ∙ ap ofWalk (c .before .before .before .before .before .before .before .before .before .before .walked .given .1)) in
+    let fits = c .before .before .before .before .before .if2 .left in
+    let e = is-taken (a .method) (a .parity) (a .line .now) _ x (c .before .before .before .before .before .before .before .before .check-right .ensures) (length (a .out .now)) (not-false _ (c .before .before .before .before .before .before .before .if1 .left)) fits in (
+      taken-numbers (a .method) (a .parity) (a .line .now) _ x ∙ sym (ap ofReadAnswer e),
+      taken-output (a .method) (a .parity) (a .line .now) _ x (a .out .now) fits (rw (c .before .before .before .before .is-seven .ensures) at (c .before .before .hand-out .ensures)) ∙ sym (ap (λ z. readOutput z (a .out .now)) e),
+    )
 
 pub read-block-spec : {M : Type 1} → statement M
 read-block-spec =
