@@ -75,8 +75,7 @@ end-passed m line w ks f e q = go (w .stop) refl
         let b = ask-passed (leb (length (counted (w .marks) line)) 4096) 17 0 (found (w .marks) g d) ks f e (a .1) in
         let k : found (w .marks) g d ≡ found ks f e = b .1 in
         let x : w .marks ≡ ks = cc in
-        let y : ended g d ≡ ended f e = cc in
-        (
+        let y : ended g d ≡ ended f e = cc in (
           ap₂ (λ (i : List Mark) (j : Stop). record { marks = i; stop = j }) x (r ∙ y),
           subst (λ (i : List Mark). length line ≡ length i + checkLength m) x (eqb-true _ _ (a .0)),
           subst (λ (i : List Mark). length (counted i line) ≤ 4096) x (leb-true _ _ (b .0)),

@@ -37,7 +37,7 @@ loop-less : tie.Need-loop-less Inv-loop μ-loop
 loop-less c = omega arith
 
 loop-again : tie.Need-loop-again Inv-loop μ-loop
-loop-again c =     turn (enterAllByTable (c .before .before .before .before .before .before .before .args .table .now)) (enterAll-nil (c .before .before .before .before .before .before .before .args .table .now)) (enterAll-append (c .before .before .before .before .before .before .before .args .table .now)) (c .before .before .before .before .before .loop .inv) (c .before .before .before .before .loop-test .taken) (c .before .before .is-kept .ensures) (c .before .enter-if .ensures) (c .next-behind .ensures)
+loop-again c = turn (enterAllByTable (c .before .before .before .before .before .before .before .args .table .now)) (enterAll-nil (c .before .before .before .before .before .before .before .args .table .now)) (enterAll-append (c .before .before .before .before .before .before .before .args .table .now)) (c .before .before .before .before .before .loop .inv) (c .before .before .before .before .loop-test .taken) (c .before .before .is-kept .ensures) (c .before .enter-if .ensures) (c .next-behind .ensures)
 
 returns : tie.Need-returns Inv-loop μ-loop
 returns c = whole (enterAllByTable (c .before .before .before .args .table .now)) (enterAll-nil (c .before .before .before .args .table .now)) (enterAll-append (c .before .before .before .args .table .now)) (c .before .loop .inv) (c .loop-test .left)

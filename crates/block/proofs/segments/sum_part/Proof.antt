@@ -38,7 +38,7 @@ loop-less : tie.Need-loop-less Inv-loop μ-loop
 loop-less c = omega arith
 
 loop-again : tie.Need-loop-again Inv-loop μ-loop
-loop-again c =     turn xorAll xorAll-nil xorAll-append (c .before .before .before .before .before .loop .inv) (c .before .before .before .before .loop-test .taken) (c .before .before .is-kept .ensures) (c .before .sum-if .ensures) (c .next-behind .ensures)
+loop-again c = turn xorAll xorAll-nil xorAll-append (c .before .before .before .before .before .loop .inv) (c .before .before .before .before .loop-test .taken) (c .before .before .is-kept .ensures) (c .before .sum-if .ensures) (c .next-behind .ensures)
 
 returns : tie.Need-returns Inv-loop μ-loop
 returns c = whole xorAll xorAll-nil xorAll-append (c .before .loop .inv) (c .loop-test .left)
