@@ -1,11 +1,10 @@
 -- The checks of a framed line: the counted bytes folded segment by segment, and a received check compared. Assumes nothing.
 use mathlib.Core.Path.{_≡_, refl, sym, ap, ap₂, _∙_}
-use Prim.Native.Nat.{ℕ, suc, _+_, _-_, _*_, _/_, _%_, _^_, _≤_, _<_}
-use native.Mathlib.Nat.{mod-eq-of-lt}
+use Prim.Native.Nat.{ℕ, suc, _+_, _-_, _*_, _/_, _%_, _^_, _<_}
 use native.Mathlib.Numerals.{add-one}
 use native.Mathlib.Omega.{arith}
 use mathlib.Core.Bool.{Bool, true, false, true≢false}
-use mathlib.Core.List.{List, [], _∷_, _++_, append-assoc}
+use mathlib.Core.List.{List, [], _∷_, _++_}
 use lib.Bits.{bitXor}
 use lib.Dec.{T, eqb}
 use lib.ListN.{length, getD, take, drop, drop-of-length-le}
@@ -14,7 +13,7 @@ use borrow.Author.Tests.{eqb-true, eqb-false}
 use Rattle.bits.specs.Strings.{add, xor, zeros, parity, same}
 use Rattle.bits.specs.Bytes.{lowBits, bitsOf, Bytes, digit, littleEndian, pack}
 use Rattle.bits.proofs.Strings.{same-sound, same-self}
-use Rattle.bits.proofs.Bytes.{length-bitsOf, bitsOf-one, bitsOf-injective, length-lowBits, lowBits-append, lowBits-mod, lowBits-xor, lowBits-zero}
+use Rattle.bits.proofs.Bytes.{bitsOf-one, bitsOf-injective, length-lowBits, lowBits-append, lowBits-mod, lowBits-xor, lowBits-zero}
 use Rattle.bits.proofs.Strings.{xor-comm, xor-assoc, xor-zeros, length-xor}
 use Rattle.bits.proofs.Packing.{bitsOf-littleEndian, pack-lowBits}
 use Rattle.cyclic.specs.Check.{method3, method4}
@@ -26,7 +25,6 @@ use Rattle.block.specs.Characters.{isOdd, withParity}
 use Rattle.block.specs.Check.{columnSums, matrixCheck, checkOf, xorAll}
 use Rattle.block.specs.Framings.{keptBytes, headerIn, textIn, countedIn, Ordered}
 use Rattle.block.specs.Write.{isClear}
-use Rattle.block.proofs.Kept.{enterAll-append}
 use Rattle.block.proofs.Reading.{part-slice}
 
 -- ---- the counted bytes, segment by segment

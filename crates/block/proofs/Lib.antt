@@ -5,6 +5,7 @@ pub mod FramingLaws
 pub mod HandedOut
 pub mod Kept
 pub mod NoSign
+pub mod OneToOne
 pub mod ReadBlock
 pub mod Reading
 pub mod Sums

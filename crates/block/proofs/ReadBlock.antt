@@ -21,7 +21,6 @@ use Rattle.block.specs.declared.Field.{Field}
 use Rattle.block.specs.declared.Field.the-variants.{Start}
 use Rattle.block.specs.declared.Framing.{Framing}
 use Rattle.block.specs.declared.ReadRefusal.{ReadRefusal}
-use Rattle.block.specs.declared.BlockRead.{BlockRead}
 use Rattle.block.specs.declared.WalkEnd.{WalkEnd}
 use Rattle.block.specs.declared.WalkEnd.the-variants as code
 use Rattle.block.specs.Signs.{choose, endByte}
@@ -31,10 +30,9 @@ use Rattle.block.specs.Marks.{isHeader, isText, sift, counted, checkByte
 use Rattle.block.specs.Check.{checkOf, checkLength}
 use Rattle.block.specs.Read.{Framed, found, unframed, ask, askParities, askEnd, askWalk, askCheck, ReadAnswer, taken, partsOf, outputLength, readBlock, readOutput}
 use Rattle.block.specs.Read as rule
-use Rattle.block.specs.Answers.{Numbers, block, shapeNumber, readNumber, readValue, ofRead, ofReadAnswer}
-use Rattle.block.specs.Answers as answers
-use Rattle.block.specs.Framings.{noTally, tallied, framingAt, Told, framed, refusal, ofWalk, ofUnframed, toldFramed, headerIn, textIn, countedIn, Ordered, Segmented}
-use Rattle.block.proofs.FramingLaws.{segmented, Tallied, tally-counts, framing-shape, marks-within}
+use Rattle.block.specs.Answers.{block, shapeNumber, readNumber, readValue, ofReadAnswer}
+use Rattle.block.specs.Framings.{noTally, tallied, framingAt, framed, refusal, ofWalk, toldFramed, headerIn, textIn, countedIn, Ordered, Segmented}
+use Rattle.block.proofs.FramingLaws.{segmented, Tallied, tally-counts, framing-shape}
 use Rattle.block.proofs.HandedOut.{map-append}
 use Rattle.block.proofs.Reading.{Carries, framing-carries}
 

@@ -1,11 +1,11 @@
 -- Reading, question by question: what each answer on the way leaves to the rule. Assumes nothing.
-use mathlib.Core.Path.{_≡_, refl, sym, ap, ap₂, subst, _∙_}
+use mathlib.Core.Path.{_≡_, refl, sym, ap, subst, _∙_}
 use Prim.Native.Nat.{ℕ, zero, suc, _+_, _-_, _≤_, _<_}
 use native.Mathlib.Nat.{add-zero, zero-add}
 use native.Mathlib.Numerals.{add-one}
 use native.Mathlib.Omega.{arith}
 use mathlib.Core.Bool.{Bool, true, false}
-use mathlib.Core.List.{List, [], _∷_, _++_}
+use mathlib.Core.List.{List, [], _∷_}
 use lib.Dec.{eqb, leb}
 use lib.ListN.{length, getD, take, drop, drop-of-length-le}
 use lib.Seq.{drop-cons, slice}
@@ -31,8 +31,8 @@ use Rattle.block.specs.Check.{checkLength}
 use Rattle.block.specs.Read.{Framed, found, unframed, askParities, askEnd, askWalk}
 use Rattle.block.specs.Read as rule
 use Rattle.block.specs.Answers.{readNumber, readValue}
-use Rattle.block.specs.Framings.{noTally, bumped, tallied, segments, framingAt, Told, framed, refusal, ofWalk, stopped, toldBy, told, toldFramed, wrongFrom}
-use Rattle.block.proofs.FramingLaws.{Tallied, tally-counts, marks-within}
+use Rattle.block.specs.Framings.{noTally, bumped, tallied, segments, framingAt, framed, refusal, ofWalk, stopped, toldBy, told, toldFramed, wrongFrom}
+use Rattle.block.proofs.FramingLaws.{tally-counts, marks-within}
 
 -- ---- a part of a slice
 

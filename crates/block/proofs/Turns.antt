@@ -4,7 +4,7 @@ use Prim.Native.Nat.{ℕ, _+_, _≤_, _<_}
 use native.Mathlib.Numerals.{add-one}
 use native.Mathlib.Omega.{arith}
 use mathlib.Core.Bool.{Bool, true, false}
-use mathlib.Core.List.{List, [], _∷_}
+use mathlib.Core.List.{List}
 use lib.Dec.{eqb}
 use lib.ListN.{length, getD, drop, drop-of-length-le}
 use lib.Seq.{drop-cons}
@@ -14,13 +14,13 @@ use Rattle.block.specs.declared.Mark.the-variants.{LeftOut, HeaderByte, 
 use Rattle.block.specs.declared.Field.{Field}
 use Rattle.block.specs.declared.Field.the-variants.{Start, StartDle, Header, HeaderDle, Text, Clear, ClearDle}
 use Rattle.block.specs.declared.Judged.{Judged}
-use Rattle.block.specs.declared.Judged.the-variants.{Is, Ends, NoStart, OutOfPlace, DleOutOfPlace}
+use Rattle.block.specs.declared.Judged.the-variants.{Is, Ends}
 use Rattle.block.specs.declared.Tally.{Tally}
 use Rattle.block.specs.declared.Framing.{Framing}
 use Rattle.block.specs.Signs.{signOf, choose}
 use Rattle.block.specs.Characters.{character}
-use Rattle.block.specs.Walk.{Stop, halt, cut, onward, judge, walk}
-use Rattle.block.specs.Framings.{noTally, bumped, framingAt, Told, framed, stopped, told, Small}
+use Rattle.block.specs.Walk.{halt, cut, onward, judge, walk}
+use Rattle.block.specs.Framings.{noTally, bumped, framingAt, framed, stopped, told, Small}
 
 -- ---- the tally stays below the place
 

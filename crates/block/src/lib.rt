@@ -152,17 +152,11 @@ pub enum WalkEnd {
 
 mod check;
 mod judge;
-mod numbers;
 mod read;
 mod segments;
 mod signs;
 mod walk;
 mod write;
 
-pub use numbers::read_number;
-pub use numbers::read_value;
-pub use numbers::shape_number;
-pub use numbers::write_number;
-pub use numbers::write_value;
 pub use read::read_block;
 pub use write::write_block;

@@ -51,7 +51,7 @@ fn print_taken(b: Block) {
     let shape = b.shape;
     let end = b.end;
     io::write_all(STDOUT_FILENO, b"taken");
-    print_number(block::shape_number(shape));
+    print_number(answers::shape_number(shape));
     print_end(end);
     print_number(b.header);
     print_number(b.text);
@@ -60,8 +60,8 @@ fn print_taken(b: Block) {
 
 fn print_refused(r: ReadRefusal) {
     io::write_all(STDOUT_FILENO, b"refused");
-    print_number(block::read_number(r));
-    print_number(block::read_value(r));
+    print_number(answers::read_number(r));
+    print_number(answers::read_value(r));
 }
 
 fn run(input: &[u8]) {

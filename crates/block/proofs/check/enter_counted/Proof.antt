@@ -1,7 +1,6 @@
 -- `enter_counted` meets its contract: header, inner start, text and end sign enter one after the other. Assumes nothing.
 use mathlib.Core.Bool.{false}
 use mathlib.Core.Path.{_∙_}
-use native.Mathlib.Omega.{arith}
 use Rattle.cyclic.specs.Register.{enterAllByTable}
 use Rattle.block.proofs.Kept.{enterAll-append}
 use Rattle.block.proofs.CheckLaws.{folded, enter-last}

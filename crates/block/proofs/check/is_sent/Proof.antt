@@ -1,6 +1,5 @@
 -- `is_sent` meets its contract: bytes are the bits of a check where they are the bytes in which it is sent. Assumes nothing.
 use Prim.Native.Nat.{_+_}
-use native.Mathlib.Omega.{arith}
 use Rattle.block.proofs.CheckLaws.{both-bytes, first-differs}
 use borrow.Author.Needs.{needs}
 use Rattle.block.proofs.check.is_sent.Statement.{statement}

@@ -1,6 +1,5 @@
 -- `sum_counted` meets its contract: header, inner start, text and end sign are summed one after the other. Assumes nothing.
 use mathlib.Core.Bool.{true}
-use native.Mathlib.Omega.{arith}
 use Rattle.block.specs.Check.{xorAll}
 use Rattle.block.proofs.Sums.{xorAll-append}
 use Rattle.block.proofs.CheckLaws.{folded, xor-last}

@@ -1,5 +1,4 @@
 -- `hand_out` meets its contract: the header is stored first, the text behind it. Assumes nothing.
-use native.Mathlib.Omega.{arith}
 use Rattle.block.proofs.HandedOut.{header-room, text-room, both-handed}
 use borrow.Author.Needs.{needs}
 use Rattle.block.proofs.read.hand_out.Statement.{statement}

@@ -1,11 +1,6 @@
 -- `walk_closed` meets its contract: questions 16 and 17 are put to what the walk told. Assumes nothing.
-use mathlib.Core.Path.{_≡_, sym, ap, _∙_}
-use Prim.Native.Nat.{_+_}
+use mathlib.Core.Path.{sym}
 use native.Mathlib.Omega.{arith}
-use mathlib.Core.Bool.{Bool}
-use Rattle.block.specs.Characters.{isSeven}
-use Rattle.block.specs.Check.{checkLength}
-use Rattle.block.specs.Framings.{ofWalk}
 use Rattle.block.proofs.Reading.{told-as, check-small, after-small, refused-as, wrong-length, too-many, all-passed}
 use borrow.Author.Needs.{needs}
 use Rattle.block.proofs.read.walk_closed.Statement.{statement}

@@ -1,7 +1,6 @@
 -- `copy_part` meets its contract. The loop's invariant: what is left to store, laid over the output, gives the whole. The measure is what is left. Assumes nothing.
 use Prim.Native.Nat.{_-_, _+_, _≤_}
 use mathlib.Core.Bool.{false}
-use mathlib.Core.Path.{_∙_}
 use native.Mathlib.Omega.{arith}
 use lib.ListN.{length}
 use Rattle.block.specs.Framings.{keptBytes}

@@ -1,5 +1,4 @@
 -- `is_kept` meets its contract. Assumes nothing.
-use mathlib.Core.Path.{refl}
 use Rattle.block.specs.Framings.{isKept}
 use borrow.Author.Needs.{needs}
 use Rattle.block.proofs.segments.is_kept.Statement.{statement}

@@ -1,9 +1,9 @@
-// Document 01's numbers of an answer.
-use crate::ReadRefusal;
-use crate::Shape;
-use crate::WriteRefusal;
+// Document 01's numbers for the answers of the block calls, for programs and the C library: every answer has its number.
+use block::ReadRefusal;
+use block::Shape;
+use block::WriteRefusal;
 ghost use mathlib.Core.Path.{_≡_};
 ghost use Rattle.block.specs.Answers.{shapeNumber, readNumber, readValue, writeNumber, writeValue};
 
 pub fn shape_number(s: Shape) -> usize
     ensures { λ r. ⌜ r ≡ shapeNumber s ⌝ }
