@@ -3,10 +3,13 @@ pub mod CheckLaws
 pub mod FramingCases
 pub mod FramingLaws
 pub mod HandedOut
+pub mod HeaderWalk
 pub mod Kept
+pub mod KeptBySign
 pub mod NoSign
 pub mod OneToOne
 pub mod ReadBlock
 pub mod Reading
 pub mod Sums
+pub mod TextWalk
 pub mod Turns
