@@ -36,7 +36,7 @@ returns-2 : tie.Need-returns-2
 returns-2 c =
     let a = c .before .before .before .before .before .before .before .before .args in
     let e = told-as (a .m) (a .line .now) (c .before .before .before .before .before .before .is-seven .ensures) (c .before .before .before .before .before .walk .ensures) (c .before .before .before .walked .given .1) in
-    sym (wrong-length (a .m) (a .line .now) _ e (λ q. c .if1 .taken (omega (arith, c .before .check-length .ensures))))
+    sym (wrong-length (a .m) (a .line .now) _ e (λ q. omega (arith, c .before .check-length .ensures)))
 
 returns-3 : tie.Need-returns-3
 returns-3 c =
