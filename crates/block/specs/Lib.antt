@@ -5,5 +5,6 @@ pub mod Marks
 pub mod Check
 pub mod Read
 pub mod Write
+pub mod Writing
 pub mod Answers
 pub mod Framings

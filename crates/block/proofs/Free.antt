@@ -1,0 +1,115 @@
+-- Free bytes: the match on a byte, the loop that looks for the first that is not free, and questions 2 and 3. Assumes nothing.
+use mathlib.Core.Path.{_≡_, refl, sym, ap, _∙_}
+use Prim.Native.Nat.{ℕ, _+_, _≤_, _<_}
+use native.Mathlib.Numerals.{add-one}
+use native.Mathlib.Omega.{arith}
+use mathlib.Core.Bool.{Bool, true, false, not, _||_}
+use mathlib.Core.List.{List, [], _∷_}
+use lib.ListN.{length, getD, drop, drop-of-length-le}
+use lib.Seq.{drop-cons}
+use borrow.Author.Tests.{ne-eqb, lt-ltb, le-ltb}
+use Rattle.block.specs.Signs.{signOf, other, choose}
+use Rattle.block.specs.Write.{isFree, WriteAnswer, refusal, askFree}
+use Rattle.block.specs.Writing.{reservedFrom}
+
+-- ---- the match: an arm of a range knows that the byte is none of the seven signs, in the order of the arms
+
+abbrev pub NoSign : ℕ → Type 0
+NoSign b =
+    ((((((Unit {0} × (b ≡ 0x01 → ⊥)) × (b ≡ 0x02 → ⊥)) × (b ≡ 0x10 → ⊥)) × (b ≡ 0x16 → ⊥)) × (b ≡ 0x03 → ⊥)) × (b ≡ 0x17 → ⊥))
+    × (b ≡ 0x1F → ⊥)
+
+no-sign : (b : ℕ) → NoSign b → signOf b ≡ other
+unfolding signOf
+no-sign b h =
+    simp (
+      ne-eqb b 0x01 (h .0 .0 .0 .0 .0 .0 .1),
+      ne-eqb b 0x02 (h .0 .0 .0 .0 .0 .1),
+      ne-eqb b 0x10 (h .0 .0 .0 .0 .1),
+      ne-eqb b 0x16 (h .0 .0 .0 .1),
+      ne-eqb b 0x03 (h .0 .0 .1),
+      ne-eqb b 0x17 (h .0 .1),
+      ne-eqb b 0x1F (h .1),
+    )
+
+pub or-true : (t : Bool) → t || true ≡ true
+or-true true = refl
+or-true false = refl
+
+or-false : (t : Bool) → t || false ≡ t
+or-false true = refl
+or-false false = refl
+
+pub free-low : (seven : Bool) (b : ℕ) → NoSign b → b < 0x80 → true ≡ isFree seven b
+unfolding isFree
+free-low seven b h l = sym (rw (no-sign b h, lt-ltb b 0x80 l) (or-true (not seven)))
+
+pub free-high : (seven : Bool) (b : ℕ) → NoSign b → 0x80 ≤ b → not seven ≡ isFree seven b
+unfolding isFree
+free-high seven b h l = sym (rw (no-sign b h, le-ltb b 0x80 l) (or-false (not seven)))
+
+-- ---- the loop
+
+module _ (seven : Bool) (part : List ℕ) (i : ℕ) where
+  here : i < length part → reservedFrom seven i (drop i part) ≡ choose (isFree seven (getD part i 0)) (reservedFrom seven (i + 1) (drop (i + 1) part)) i
+  unfolding reservedFrom
+  here h = rw (drop-cons part i 0 h, add-one)
+
+  pub reserved-on : {free : Bool} → i < length part → free ≡ isFree seven (getD part i 0) → free ≡ true
+      → reservedFrom seven i (drop i part) ≡ reservedFrom seven 0 part → reservedFrom seven (i + 1) (drop (i + 1) part) ≡ reservedFrom seven 0 part
+  reserved-on h e f rest =
+      sym (ap (λ t. choose t (reservedFrom seven (i + 1) (drop (i + 1) part)) i) (sym e ∙ f)) ∙ sym (here h) ∙ rest
+
+  pub reserved-here : {free : Bool} → i < length part → free ≡ isFree seven (getD part i 0) → free ≡ false
+      → reservedFrom seven i (drop i part) ≡ reservedFrom seven 0 part → i ≡ reservedFrom seven 0 part
+  reserved-here h e f rest =
+      sym (ap (λ t. choose t (reservedFrom seven (i + 1) (drop (i + 1) part)) i) (sym e ∙ f)) ∙ sym (here h) ∙ rest
+
+  pub reserved-none : length part ≤ i → reservedFrom seven i (drop i part) ≡ reservedFrom seven 0 part → i ≡ reservedFrom seven 0 part
+  unfolding reservedFrom
+  reserved-none h rest = sym (ap (reservedFrom seven i) (drop-of-length-le part h)) ∙ rest
+
+-- ---- the question
+
+module _ (seven : Bool) (number : ℕ) (next : WriteAnswer) where
+  pub ask-refuses : (part : List ℕ) (at : ℕ) → reservedFrom seven at part < at + length part
+      → askFree seven number part at next ≡ refusal number (reservedFrom seven at part)
+  unfolding reservedFrom
+  ask-refuses [] at h = absurd (omega arith)
+  ask-refuses (b ∷ rest) at h = go (isFree seven b) h (ask-refuses rest (at + 1))
+    where
+      go : (t : Bool) → choose t (reservedFrom seven (at + 1) rest) at < at + length (b ∷ rest)
+          → (reservedFrom seven (at + 1) rest < at + 1 + length rest
+          → askFree seven number rest (at + 1) next ≡ refusal number (reservedFrom seven (at + 1) rest))
+          → choose t (askFree seven number rest (at + 1) next) (refusal number at) ≡ refusal number (choose t (reservedFrom seven (at + 1) rest) at)
+      go true l r = r (omega arith)
+      go false l r = refl
+
+  pub ask-passes : (part : List ℕ) (at : ℕ) → at + length part ≤ reservedFrom seven at part → askFree seven number part at next ≡ next
+  unfolding reservedFrom
+  ask-passes [] at h = refl
+  ask-passes (b ∷ rest) at h = go (isFree seven b) h (ask-passes rest (at + 1))
+    where
+      go : (t : Bool) → at + length (b ∷ rest) ≤ choose t (reservedFrom seven (at + 1) rest) at
+          → (at + 1 + length rest ≤ reservedFrom seven (at + 1) rest → askFree seven number rest (at + 1) next ≡ next)
+          → choose t (askFree seven number rest (at + 1) next) (refusal number at) ≡ next
+      go true l r = r (omega arith)
+      go false l r = absurd (omega arith)
+
+-- clear text has no question
+module _ (seven clear : Bool) (number : ℕ) (next : WriteAnswer) (body : List ℕ) where
+  pub text-refuses : choose clear (length body) (reservedFrom seven 0 body) < length body
+      → askFree seven number (choose clear [] body) 0 next ≡ refusal number (choose clear (length body) (reservedFrom seven 0 body))
+  text-refuses = go clear
+    where
+      go : (t : Bool) → choose t (length body) (reservedFrom seven 0 body) < length body
+          → askFree seven number (choose t [] body) 0 next ≡ refusal number (choose t (length body) (reservedFrom seven 0 body))
+      go true h = absurd (omega arith)
+      go false h = ask-refuses seven number next body 0 (omega arith)
+
+  pub text-passes : length body ≤ choose clear (length body) (reservedFrom seven 0 body) → askFree seven number (choose clear [] body) 0 next ≡ next
+  text-passes = go clear
+    where
+      go : (t : Bool) → length body ≤ choose t (length body) (reservedFrom seven 0 body) → askFree seven number (choose t [] body) 0 next ≡ next
+      go true h = refl
+      go false h = ask-passes seven number next body 0 (omega arith)
