@@ -131,7 +131,7 @@ sums-xor sum [] = sym (xor-comm (lowBits 7 sum) (zeros 7) ∙ xor-zeros 7 (lowBi
 sums-xor sum (b ∷ bs) =
     sums-xor (bitXor sum b) bs ∙ ap (λ z. xor z (columnSums bs)) (lowBits-xor 7 sum b) ∙ xor-assoc (lowBits 7 sum) (lowBits 7 b) (columnSums bs)
 
-length-sums : (bs : List ℕ) → length (columnSums bs) ≡ 7
+pub length-sums : (bs : List ℕ) → length (columnSums bs) ≡ 7
 unfolding columnSums
 length-sums [] = refl
 length-sums (b ∷ bs) = length-xor (lowBits 7 b) (columnSums bs) (length-lowBits 7 b ∙ sym (length-sums bs)) ∙ length-sums bs
@@ -144,32 +144,29 @@ unfolding lowBits
 one-digit true = refl
 one-digit false = refl
 
+digit-small : (d : Bool) → digit d < 2
+digit-small true = omega arith
+digit-small false = omega arith
+
 -- a character with its parity bit: its seven bits, and the bit
+pub withParity-low : (p : Parity) (x : ℕ) → lowBits 7 (withParity p x) ≡ lowBits 7 x
+unfolding withParity
+withParity-low p x =
+    let n = x % 128 + 128 * digit (add (isOdd p) (parity (lowBits 7 x))) in
+    let e : n % 128 ≡ x % 128 = omega arith in
+    sym (lowBits-mod 7 n) ∙ ap (lowBits 7) e ∙ lowBits-mod 7 x
+
 pub withParity-bits : (p : Parity) (x : ℕ) → lowBits 8 (withParity p x) ≡ lowBits 7 x ++ add (isOdd p) (parity (lowBits 7 x)) ∷ []
 unfolding withParity
 withParity-bits p x =
     let d = add (isOdd p) (parity (lowBits 7 x)) in
     let n = x % 128 + 128 * digit d in
-    let l : n % 2 ^ 7 ≡ x % 2 ^ 7 = low d in
-    let h : n / 2 ^ 7 ≡ digit d = high d in
-    lowBits-append 7 1 n
-    ∙ ap₂ _++_ (sym (lowBits-mod 7 n) ∙ ap (lowBits 7) l ∙ lowBits-mod 7 x) (ap (lowBits 1) h ∙ one-digit d)
-  where
-    low : (d : Bool) → (x % 128 + 128 * digit d) % 128 ≡ x % 128
-    low true = omega arith
-    low false = omega arith
-
-    high : (d : Bool) → (x % 128 + 128 * digit d) / 128 ≡ digit d
-    high true = omega arith
-    high false = omega arith
+    let e : n / 128 ≡ digit d = omega arith in
+    lowBits-append 7 1 n ∙ ap₂ _++_ (withParity-low p x) (ap (lowBits 1) e ∙ one-digit d)
 
 pub withParity-lt : (p : Parity) (x : ℕ) → withParity p x < 256
 unfolding withParity
-withParity-lt p x = go (add (isOdd p) (parity (lowBits 7 x)))
-  where
-    go : (d : Bool) → x % 128 + 128 * digit d < 256
-    go true = omega arith
-    go false = omega arith
+withParity-lt p x = omega (arith, digit-small (add (isOdd p) (parity (lowBits 7 x))))
 
 pub matrix-character : (p : Parity) (bs : List ℕ) → matrixCheck p bs ≡ lowBits 8 (withParity p (xorAll 0 bs))
 unfolding matrixCheck

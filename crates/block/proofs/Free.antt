@@ -8,29 +8,12 @@ use mathlib.Core.List.{List, [], _∷_}
 use lib.ListN.{length, getD, drop, drop-of-length-le}
 use lib.Seq.{drop-cons}
 use borrow.Author.Tests.{ne-eqb, lt-ltb, le-ltb}
-use Rattle.block.specs.Signs.{signOf, other, choose}
+use Rattle.block.specs.Signs.{choose}
 use Rattle.block.specs.Write.{isFree, WriteAnswer, refusal, askFree}
 use Rattle.block.specs.Writing.{reservedFrom}
+use Rattle.block.proofs.NoSign.{NoSign, no-sign}
 
--- ---- the match: an arm of a range knows that the byte is none of the seven signs, in the order of the arms
-
-abbrev pub NoSign : ℕ → Type 0
-NoSign b =
-    ((((((Unit {0} × (b ≡ 0x01 → ⊥)) × (b ≡ 0x02 → ⊥)) × (b ≡ 0x10 → ⊥)) × (b ≡ 0x16 → ⊥)) × (b ≡ 0x03 → ⊥)) × (b ≡ 0x17 → ⊥))
-    × (b ≡ 0x1F → ⊥)
-
-no-sign : (b : ℕ) → NoSign b → signOf b ≡ other
-unfolding signOf
-no-sign b h =
-    simp (
-      ne-eqb b 0x01 (h .0 .0 .0 .0 .0 .0 .1),
-      ne-eqb b 0x02 (h .0 .0 .0 .0 .0 .1),
-      ne-eqb b 0x10 (h .0 .0 .0 .0 .1),
-      ne-eqb b 0x16 (h .0 .0 .0 .1),
-      ne-eqb b 0x03 (h .0 .0 .1),
-      ne-eqb b 0x17 (h .0 .1),
-      ne-eqb b 0x1F (h .1),
-    )
+-- ---- the match on a byte
 
 pub or-true : (t : Bool) → t || true ≡ true
 or-true true = refl

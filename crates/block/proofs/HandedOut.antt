@@ -10,12 +10,8 @@ use Rattle.block.specs.declared.Framing.{Framing}
 use Rattle.block.specs.Characters.{character}
 use Rattle.block.specs.Framings.{keptBytes, headerIn, textIn, Ordered}
 use Rattle.block.specs.Write.{isClear}
-use Rattle.block.proofs.Kept.{sets-append}
+use Rattle.block.proofs.Stores.{sets-append, map-append}
 use Rattle.block.proofs.Reading.{part-slice}
-
-pub map-append : (f : ℕ → ℕ) (xs ys : List ℕ) → map f (xs ++ ys) ≡ map f xs ++ map f ys
-map-append f [] ys = refl
-map-append f (x ∷ xs) ys = ap (λ z. f x ∷ z) (map-append f xs ys)
 
 module _ (seven : Bool) (f : Framing) (line : List ℕ) (o : Ordered f (length line)) where
   header-part : keptBytes false seven false (take (f .inner - f .head) (drop (f .head) line)) ≡ headerIn seven f line

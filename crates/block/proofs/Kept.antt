@@ -12,6 +12,7 @@ use Rattle.bits.specs.Differences.{consIf}
 use Rattle.cyclic.specs.Register.{enterAllByTable}
 use Rattle.block.specs.Characters.{character}
 use Rattle.block.specs.Framings.{isKept, nextBehind, keptBytes}
+use Rattle.block.proofs.Stores.{sets-append}
 
 pub consIf-append : (t : Bool) (b : ℕ) (bs : List ℕ) → consIf t b bs ≡ consIf t b [] ++ bs
 consIf-append true b bs = refl
@@ -70,12 +71,6 @@ enterAll-append table a [] ys = refl
 enterAll-append table a (x ∷ xs) ys = enterAll-append table _ xs ys
 
 -- ---- a loop that stores the characters of the kept bytes
-
-pub sets-append : (xs ys l : List ℕ) (n : ℕ) → sets l n (xs ++ ys) ≡ sets (sets l n xs) (n + length xs) ys
-sets-append [] ys l n = rw add-zero
-sets-append (x ∷ xs) ys l n =
-    let e : suc n + length xs ≡ n + suc (length xs) = omega arith in
-    sets-append xs ys (set l n x) (suc n) ∙ ap (λ k. sets (sets (set l n x) (suc n) xs) k ys) e
 
 map-consIf : (f : ℕ → ℕ) (t : Bool) (b : ℕ) (bs : List ℕ) → map f (consIf t b [] ++ bs) ≡ consIf t (f b) [] ++ map f bs
 map-consIf f true b bs = refl

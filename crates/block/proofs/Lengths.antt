@@ -29,6 +29,7 @@ use Rattle.block.specs.Characters.{isSeven, isOdd, sent}
 use Rattle.block.specs.Check.{columnSums, matrixCheck, checkOf, checkLength}
 use Rattle.block.specs.Write.{isClear, startSigns, innerSigns, doubled, escaped, countedBytes, framedBytes, lineOf}
 use Rattle.block.specs.Writing.{bodyBytes, bodyLength, lineLength}
+use Rattle.block.proofs.CheckLaws.{length-sums}
 
 -- ---- signs
 
@@ -100,14 +101,9 @@ count-all {part} {n} k h = omega (arith, k .rest, ap (λ l. length (escaped l)) 
 
 -- ---- checks
 
-pub length-columns : (bs : List ℕ) → length (columnSums bs) ≡ 7
-unfolding columnSums
-length-columns [] = length-zeros 7
-length-columns (b ∷ bs) = length-xor (lowBits 7 b) (columnSums bs) (length-lowBits 7 b ∙ sym (length-columns bs)) ∙ length-columns bs
-
 length-matrix : (p : Parity) (bs : List ℕ) → length (matrixCheck p bs) ≡ 8
 unfolding matrixCheck
-length-matrix p bs = length-append (columnSums bs) (add (isOdd p) (parity (columnSums bs)) ∷ []) ∙ ap (λ n. n + 1) (length-columns bs)
+length-matrix p bs = length-append (columnSums bs) (add (isOdd p) (parity (columnSums bs)) ∷ []) ∙ ap (λ n. n + 1) (length-sums bs)
 
 length-cyclic : (m : Parameters) → OfWidth 16 m → (c : _) → length (checkBits m c) ≡ 16
 length-cyclic m o c = length-check m (o .start-length ∙ sym (o .generator .width)) c ∙ o .generator .width

@@ -33,7 +33,7 @@ use Rattle.block.specs.Read as rule
 use Rattle.block.specs.Answers.{block, shapeNumber, readNumber, readValue, ofReadAnswer}
 use Rattle.block.specs.Framings.{noTally, tallied, framingAt, framed, refusal, ofWalk, toldFramed, headerIn, textIn, countedIn, Ordered, Segmented}
 use Rattle.block.proofs.FramingLaws.{segmented, Tallied, tally-counts, framing-shape}
-use Rattle.block.proofs.HandedOut.{map-append}
+use Rattle.block.proofs.Stores.{map-append}
 use Rattle.block.proofs.Reading.{Carries, framing-carries}
 
 -- ---- a line that passed 11 to 17

@@ -223,12 +223,6 @@ module _ (m : Method) (line : List ℕ) (r : Framing) (e : told noTally 0 (walk 
 
 -- ---- the same of the code's walk
 
-pub check-small : (m : Method) → checkLength m ≤ 2
-check-small method.Parity = omega arith
-check-small method.Matrix = omega arith
-check-small method.Cyclic = omega arith
-check-small method.CyclicAlternative = omega arith
-
 module _ (m : Method) (line : List ℕ) {seven : Bool} {result : WalkEnd} (s : seven ≡ isSeven m)
     (e : ofWalk result ≡ told noTally 0 (walk seven line 0 Start)) where
   pub told-as : {r : Framing} → result ≡ code.Found r → told noTally 0 (walk (isSeven m) line 0 Start) ≡ framed r

@@ -19,6 +19,10 @@ sets-append (x ∷ xs) ys l n =
     let e : suc n + length xs ≡ n + suc (length xs) = omega arith in
     sets-append xs ys (set l n x) (suc n) ∙ ap (λ k. sets (sets (set l n x) (suc n) xs) k ys) e
 
+pub map-append : (f : ℕ → ℕ) (xs ys : List ℕ) → map f (xs ++ ys) ≡ map f xs ++ map f ys
+map-append f [] ys = refl
+map-append f (x ∷ xs) ys = ap (λ z. f x ∷ z) (map-append f xs ys)
+
 -- ---- stores one after the other
 
 pub stored-none : {out : List ℕ} {at : ℕ} → Stored out at [] out at

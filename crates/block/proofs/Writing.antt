@@ -20,13 +20,9 @@ use Rattle.block.specs.Write.{WriteAnswer, written, refusal, ask, askFre
 use Rattle.block.specs.Writing.{reservedFrom, bodyBytes, lineLength, Stored}
 use Rattle.block.specs.Answers.{line, refused, ofWriteAnswer}
 use Rattle.block.proofs.Free.{ask-refuses, ask-passes, text-refuses, text-passes}
-use Rattle.block.proofs.Stores.{stored-as, stored-append, stored-front}
+use Rattle.block.proofs.Stores.{map-append, stored-as, stored-append, stored-front}
 use Rattle.block.proofs.Lengths.{length-line}
 use Rattle.block.proofs.WrittenChecks.{sent-eight}
-
-map-append : (f : ℕ → ℕ) (xs ys : List ℕ) → map f (xs ++ ys) ≡ map f xs ++ map f ys
-map-append f [] ys = refl
-map-append f (x ∷ xs) ys = ap (λ l. f x ∷ l) (map-append f xs ys)
 
 -- ---- text and end sign
 

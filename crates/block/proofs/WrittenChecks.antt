@@ -26,7 +26,8 @@ use Rattle.block.specs.Check.{columnSums, matrixCheck, checkOf, xorAll}
 use Rattle.block.specs.Write.{innerSigns, countedBytes}
 use Rattle.block.specs.Writing.{checkedBytes}
 use Rattle.block.proofs.Sums.{xorAll-append}
-use Rattle.block.proofs.Lengths.{length-columns}
+use Rattle.block.proofs.Kept.{enterAll-append}
+use Rattle.block.proofs.CheckLaws.{withParity-low, withParity-lt, matrix-character}
 
 -- ---- eight-bit bytes are sent as they are
 
@@ -36,12 +37,6 @@ sent-eight p [] = refl
 sent-eight p (b ∷ bs) = ap (λ l. b ∷ l) (sent-eight p bs)
 
 -- ---- the parts one after the other
-
-pub enterAll-append : (table : List ℕ) (register : ℕ) (xs ys : List ℕ)
-    → enterAllByTable table register (xs ++ ys) ≡ enterAllByTable table (enterAllByTable table register xs) ys
-unfolding enterAllByTable
-enterAll-append table register [] ys = refl
-enterAll-append table register (x ∷ xs) ys = enterAll-append table (enterByTable table register x) xs ys
 
 module _ (s : Shape) (e : EndSign) (head body : List ℕ) where
   pub sum-of : {a b c d r : ℕ} → a ≡ xorAll 0 head → b ≡ xorAll a (innerSigns s) → c ≡ xorAll b body → d ≡ endByte e → r ≡ bitXor c d
@@ -69,14 +64,6 @@ module _ (s : Shape) (e : EndSign) (head body : List ℕ) where
 
 -- ---- methods 3 and 4
 
-pub start-3 : lowBits 16 0xffff ≡ method3 .start
-unfolding lowBits method3
-start-3 = refl
-
-pub start-4 : lowBits 16 0 ≡ method4 .start
-unfolding lowBits method4
-start-4 = refl
-
 pub cyclic-of : (m : Parameters) → OfWidth 16 m → (bs : List ℕ) (check : ℕ) {start register : ℕ} {table sent : List ℕ}
     → lowBits 16 start ≡ m .start → start < 2 ^ 16
     → table ≡ tableOf 16 (m .generator) → register ≡ enterAllByTable table start bs
@@ -100,59 +87,18 @@ module _ (p : Parity) (s : Shape) (e : EndSign) (head body : List ℕ) where
 
 -- ---- method 2: the sums do not see the parity bit
 
-digit-small : (t : Bool) → digit t < 2
-digit-small true = omega arith
-digit-small false = omega arith
-
-low-parity : (p : Parity) (b : ℕ) → lowBits 7 (withParity p b) ≡ lowBits 7 b
-unfolding withParity
-low-parity p b =
-    let d = digit (add (isOdd p) (parity (lowBits 7 b))) in
-    let e : (b % 128 + 128 * d) % 128 ≡ b % 128 = omega arith in
-    sym (lowBits-mod 7 (b % 128 + 128 * d)) ∙ ap (lowBits 7) e ∙ lowBits-mod 7 b
-
 columns-sent : (p : Parity) (bs : List ℕ) → columnSums (map (sent true p) bs) ≡ columnSums bs
 unfolding columnSums sent
 columns-sent p [] = refl
-columns-sent p (b ∷ bs) = ap₂ xor (low-parity p b) (columns-sent p bs)
-
-columns-from : (sum : ℕ) (bs : List ℕ) → xor (lowBits 7 sum) (columnSums bs) ≡ lowBits 7 (xorAll sum bs)
-unfolding columnSums xorAll
-columns-from sum [] = xor-comm (lowBits 7 sum) (zeros 7) ∙ xor-zeros 7 (lowBits 7 sum) (length-lowBits 7 sum)
-columns-from sum (b ∷ bs) =
-    sym (xor-assoc (lowBits 7 sum) (lowBits 7 b) (columnSums bs))
-    ∙ ap (λ l. xor l (columnSums bs)) (sym (lowBits-xor 7 sum b)) ∙ columns-from (bitXor sum b) bs
-
-columns-sum : (bs : List ℕ) → columnSums bs ≡ lowBits 7 (xorAll 0 bs)
-columns-sum bs = sym (xor-zeros 7 (columnSums bs) (length-columns bs)) ∙ ap (λ l. xor l (columnSums bs)) (sym (lowBits-zero 7)) ∙ columns-from 0 bs
-
--- a character with its parity bit, bit by bit
-bit-of : (t : Bool) → lowBits 1 (digit t) ≡ t ∷ []
-unfolding lowBits
-bit-of true = refl
-bit-of false = refl
-
-bits-parity : (p : Parity) (b : ℕ) → lowBits 8 (withParity p b) ≡ lowBits 7 b ++ add (isOdd p) (parity (lowBits 7 b)) ∷ []
-unfolding withParity
-bits-parity p b =
-    let t = add (isOdd p) (parity (lowBits 7 b)) in
-    let n = b % 128 + 128 * digit t in
-    let e : n / 128 ≡ digit t = omega arith in
-    lowBits-append 7 1 n ∙ ap₂ _++_ (low-parity p b) (ap (lowBits 1) e ∙ bit-of t)
-
-parity-byte : (p : Parity) (b : ℕ) → withParity p b < 256
-unfolding withParity
-parity-byte p b = omega (arith, digit-small (add (isOdd p) (parity (lowBits 7 b))))
+columns-sent p (b ∷ bs) = ap₂ xor (withParity-low p b) (columns-sent p bs)
 
 matrix-packed : (p : Parity) (bs : List ℕ) → withParity p (xorAll 0 bs) ∷ [] ≡ pack (matrixCheck p (map (sent true p) bs))
 unfolding matrixCheck
 matrix-packed p bs =
-    let sum = xorAll 0 bs in
-    let n = withParity p sum in
-    let small : n ≡ n % 256 = omega (arith, parity-byte p sum) in
+    let n = withParity p (xorAll 0 bs) in
+    let small : n ≡ n % 256 = omega (arith, withParity-lt p (xorAll 0 bs)) in
     ap (λ b. b ∷ []) small ∙ sym (pack-lowBits 1 n)
-    ∙ ap pack
-    (bits-parity p sum ∙ ap (λ l. l ++ add (isOdd p) (parity l) ∷ []) (sym (columns-sent p bs ∙ columns-sum bs)))
+    ∙ ap pack (sym (matrix-character p bs) ∙ ap (λ l. l ++ add (isOdd p) (parity l) ∷ []) (sym (columns-sent p bs)))
 
 module _ (p : Parity) (s : Shape) (e : EndSign) (head body : List ℕ) where
   pub matrix-of : {sum check : ℕ} → sum ≡ xorAll 0 (checkedBytes s e head body) → check ≡ withParity p sum

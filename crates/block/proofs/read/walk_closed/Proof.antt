@@ -1,7 +1,8 @@
 -- `walk_closed` meets its contract: questions 16 and 17 are put to what the walk told. Assumes nothing.
 use mathlib.Core.Path.{sym}
 use native.Mathlib.Omega.{arith}
-use Rattle.block.proofs.Reading.{told-as, check-small, after-small, refused-as, wrong-length, too-many, all-passed}
+use Rattle.block.proofs.Lengths.{check-short}
+use Rattle.block.proofs.Reading.{told-as, after-small, refused-as, wrong-length, too-many, all-passed}
 use borrow.Author.Needs.{needs}
 use Rattle.block.proofs.read.walk_closed.Statement.{statement}
 use Rattle.block.proofs.read.walk_closed.Tie as tie
@@ -30,7 +31,7 @@ add-if1 : tie.Need-add-if1
 add-if1 c =
     let a = c .before .before .before .before .before .before .before .args in
     let e = told-as (a .m) (a .line .now) (c .before .before .before .before .before .is-seven .ensures) (c .before .before .before .before .walk .ensures) (c .before .before .walked .given .1) in
-    omega (arith, after-small (a .m) (a .line .now) _ e (c .before .before .before .before .before .before .before .pre), c .check-length .ensures, check-small (a .m))
+    omega (arith, after-small (a .m) (a .line .now) _ e (c .before .before .before .before .before .before .before .pre), c .check-length .ensures, check-short (a .m))
 
 returns-2 : tie.Need-returns-2
 returns-2 c =

@@ -4,7 +4,8 @@ use borrow.Author.Needs.{needs}
 use Rattle.cyclic.specs.Check.{method3}
 use Rattle.cyclic.proofs.Methods.{width-3}
 use Rattle.block.specs.Writing.{checkedBytes}
-use Rattle.block.proofs.WrittenChecks.{start-3, cyclic-of}
+use Rattle.block.proofs.WrittenChecks.{cyclic-of}
+use Rattle.block.proofs.CheckLaws.{start-3}
 use Rattle.block.proofs.write.check_3.Statement.{statement}
 use Rattle.block.proofs.write.check_3.Tie as tie
 

@@ -4,7 +4,8 @@ use borrow.Author.Needs.{needs}
 use Rattle.cyclic.specs.Check.{method4}
 use Rattle.cyclic.proofs.Methods.{width-4}
 use Rattle.block.specs.Writing.{checkedBytes}
-use Rattle.block.proofs.WrittenChecks.{start-4, cyclic-of}
+use Rattle.block.proofs.WrittenChecks.{cyclic-of}
+use Rattle.block.proofs.CheckLaws.{start-4}
 use Rattle.block.proofs.write.check_4.Statement.{statement}
 use Rattle.block.proofs.write.check_4.Tie as tie
 
