@@ -7,7 +7,7 @@ use mathlib.Core.Bool.{Bool, true, false, not, _||_}
 use mathlib.Core.List.{List, [], _∷_}
 use lib.ListN.{length, getD, drop, drop-of-length-le}
 use lib.Seq.{drop-cons}
-use borrow.Author.Tests.{ne-eqb, lt-ltb, le-ltb}
+use borrow.Author.Tests.{lt-ltb, le-ltb}
 use Rattle.block.specs.Signs.{choose}
 use Rattle.block.specs.Write.{isFree, WriteAnswer, refusal, askFree}
 use Rattle.block.specs.Writing.{reservedFrom}

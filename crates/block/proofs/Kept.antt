@@ -1,12 +1,11 @@
 -- The bytes that a segment keeps: what one byte adds, and the loops that fold them or store them. Assumes nothing.
 use mathlib.Core.Path.{_≡_, refl, sym, ap, ap₂, _∙_}
-use Prim.Native.Nat.{ℕ, suc, _+_, _≤_, _<_}
-use native.Mathlib.Nat.{add-zero}
+use Prim.Native.Nat.{ℕ, _+_, _≤_, _<_}
 use native.Mathlib.Numerals.{add-one}
 use native.Mathlib.Omega.{arith}
 use mathlib.Core.Bool.{Bool, true, false}
 use mathlib.Core.List.{List, [], _∷_, _++_, map}
-use lib.ListN.{length, getD, drop, set, drop-of-length-le, length-append, length-map}
+use lib.ListN.{length, getD, drop, drop-of-length-le, length-append, length-map}
 use lib.Seq.{drop-cons, sets}
 use Rattle.bits.specs.Differences.{consIf}
 use Rattle.cyclic.specs.Register.{enterAllByTable}

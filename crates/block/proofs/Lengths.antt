@@ -10,9 +10,7 @@ use lib.ListN.{length, getD, drop, length-append, length-map, drop-of-length-le}
 use lib.Seq.{drop-cons}
 use borrow.Author.Tests.{eq-eqb, ne-eqb}
 use Rattle.bits.specs.Strings.{add, parity}
-use Rattle.bits.specs.Bytes.{lowBits, bitsOf, bytesFor, pack}
-use Rattle.bits.proofs.Strings.{length-xor, length-zeros}
-use Rattle.bits.proofs.Bytes.{length-lowBits}
+use Rattle.bits.specs.Bytes.{bitsOf, bytesFor, pack}
 use Rattle.bits.proofs.Packing.{length-pack}
 use Rattle.cyclic.specs.Check.{Parameters, checkBits, method3, method4}
 use Rattle.cyclic.specs.Laws.{OfWidth}

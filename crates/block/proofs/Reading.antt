@@ -11,7 +11,6 @@ use lib.ListN.{length, getD, take, drop, drop-of-length-le}
 use lib.Seq.{drop-cons, slice}
 use borrow.Author.Tests.{eq-eqb, ne-eqb, le-leb, lt-leb}
 use Rattle.block.specs.declared.Method.{Method}
-use Rattle.block.specs.declared.Method.the-variants as method
 use Rattle.block.specs.declared.ReadRefusal.{ReadRefusal}
 use Rattle.block.specs.declared.WalkEnd.{WalkEnd}
 use Rattle.block.specs.declared.WalkEnd.the-variants as code

@@ -1,15 +1,13 @@
 -- The checks of a written line: the parts entered or summed one after the other give the check of the counted bytes. Assumes nothing.
 use mathlib.Core.Path.{_≡_, refl, sym, ap, ap₂, _∙_}
-use Prim.Native.Nat.{ℕ, _+_, _*_, _/_, _%_, _^_, _<_}
+use Prim.Native.Nat.{ℕ, _%_, _^_, _<_}
 use native.Mathlib.Omega.{arith}
-use mathlib.Core.Bool.{Bool, true, false}
+use mathlib.Core.Bool.{true, false}
 use mathlib.Core.List.{List, [], _∷_, _++_, map}
 use lib.Bits.{bitXor}
 use lib.Dec.{lit<}
-use Rattle.bits.specs.Strings.{add, xor, zeros, parity}
-use Rattle.bits.specs.Bytes.{lowBits, bitsOf, digit, pack}
-use Rattle.bits.proofs.Strings.{xor-comm, xor-assoc, xor-zeros}
-use Rattle.bits.proofs.Bytes.{length-lowBits, lowBits-mod, lowBits-xor, lowBits-append, lowBits-zero}
+use Rattle.bits.specs.Strings.{add, xor, parity}
+use Rattle.bits.specs.Bytes.{lowBits, bitsOf, pack}
 use Rattle.bits.proofs.Packing.{pack-lowBits}
 use Rattle.cyclic.specs.Check.{Parameters, invertIf, checkBits, method3, method4}
 use Rattle.cyclic.specs.Register.{tableOf, enterByTable, enterAllByTable}

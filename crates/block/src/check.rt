@@ -1,4 +1,4 @@
-// The checks over the counted bytes: of a framed line, and of parts to be written.
+// The checks over the counted bytes of a framed line.
 use crate::Framing;
 use crate::Method;
 use crate::Parity;
@@ -23,6 +23,18 @@ ghost use Rattle.cyclic.specs.Register.{enterAllByTable};
 ghost use Rattle.block.specs.Characters.{isSeven};
 ghost use Rattle.block.specs.Check.{checkOf, checkLength, xorAll};
 ghost use Rattle.block.specs.Framings.{countedIn, Ordered};
+
+// How many bytes of check follow the end sign.
+pub fn check_length(m: Method) -> usize
+    ensures { λ r. ⌜ r ≡ checkLength m ⌝ }
+{
+    match m {
+        Method::Parity => 0,
+        Method::Matrix => 1,
+        Method::Cyclic => 2,
+        Method::CyclicAlternative => 2,
+    }
+}
 
 // The counted bytes of a line, entered into a register.
 fn enter_counted(table: &[u16; 256], start: u16, f: Framing, line: &[u8]) -> u16

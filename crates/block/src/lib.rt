@@ -152,11 +152,15 @@ pub enum WalkEnd {
 
 mod check;
 mod judge;
+mod length;
+mod parts;
+mod put;
 mod read;
 mod segments;
 mod signs;
 mod walk;
 mod write;
+mod written_check;
 
 pub use read::read_block;
 pub use write::write_block;

@@ -8,6 +8,7 @@ use crate::Method;
 use crate::Parity;
 use crate::ReadRefusal;
 use crate::WalkEnd;
+use crate::check::check_length;
 use crate::check::check_right;
 use crate::segments::copy_part;
 use crate::segments::is_clear;
@@ -21,7 +22,6 @@ ghost use lib.ListN.{length};
 ghost use lib.Seq.{sets};
 ghost use Rattle.block.specs.Characters.{isSeven, character};
 ghost use Rattle.block.specs.Walk as rule;
-ghost use Rattle.block.specs.Check as rules;
 ghost use Rattle.block.specs.Read.{framed, askWalk, readBlock, readOutput};
 ghost use Rattle.block.specs.Answers.{ofRead, ofReadAnswer};
 ghost use Rattle.block.specs.Framings.{ofWalk, ofUnframed, toldFramed, headerIn, textIn, Ordered, wrongFrom};
@@ -38,17 +38,6 @@ fn first_wrong(p: Parity, line: &[u8]) -> usize
         i += 1;
     }
     i
-}
-
-fn check_length(m: Method) -> usize
-    ensures { λ r. ⌜ r ≡ rules.checkLength m ⌝ }
-{
-    match m {
-        Method::Parity => 0,
-        Method::Matrix => 1,
-        Method::Cyclic => 2,
-        Method::CyclicAlternative => 2,
-    }
 }
 
 // Questions 13 to 17.
