@@ -1,3 +1,4 @@
+pub mod Accepted
 pub mod Characters
 pub mod CheckLaws
 pub mod FramingCases
