@@ -23,7 +23,7 @@ use Rattle.block.specs.Walk.{judge}
 use Rattle.block.specs.Walk.{ended, Walked, onward, walk}
 use Rattle.block.specs.Marks.{isHeader, isText, sift, counted, hasInner, shapeOf}
 use Rattle.block.specs.Write.{isClear}
-use Rattle.block.specs.Framings.{noTally, bumped, tallied, segments, framingAt}
+use Rattle.block.specs.Framings.{noTally, addMark, tallied, segments, framingAt}
 use Rattle.block.specs.Framings.{keptBytes, headerIn, textIn, countedIn, Segmented}
 use Rattle.block.proofs.TextWalk.{Part}
 use Rattle.block.proofs.HeaderWalk.{not-zero, inner-kept, Kind, header-alone, header-plain, header-clear, Headed, Line, plain, clear, headed, line-of}
@@ -270,7 +270,7 @@ record Counted (t : Tally) (at : ℕ) (ks : List Mark) (line : List ℕ) : Type 
   texts : tallied t at ks .text ≡ t .text + length (sift isText ks line)
   counts : tallied t at ks .counted ≡ t .counted + length (counted ks line)
 
-counted-step : (k : Mark) (t : Tally) (at b : ℕ) (ks : List Mark) (line : List ℕ) → Counted (bumped k at t) (at + 1) ks line
+counted-step : (k : Mark) (t : Tally) (at b : ℕ) (ks : List Mark) (line : List ℕ) → Counted (addMark k at t) (at + 1) ks line
     → Counted t at (k ∷ ks) (b ∷ line)
 counted-step LeftOut t at b ks line p =
     record { headers = p .headers; texts = p .texts; counts = p .counts }
@@ -287,7 +287,7 @@ counted-from : (t : Tally) (at : ℕ) (ks : List Mark) (line : List ℕ) → len
 counted-from t at [] line h = record { headers = omega arith; texts = omega arith; counts = omega arith }
 counted-from t at (k ∷ ks) [] h = absurd (omega arith)
 counted-from t at (k ∷ ks) (b ∷ line) h =
-    counted-step k t at b ks line (counted-from (bumped k at t) (at + 1) ks line (omega arith))
+    counted-step k t at b ks line (counted-from (addMark k at t) (at + 1) ks line (omega arith))
 
 -- the tally counts the marks
 pub record Tallied (ks : List Mark) (line : List ℕ) : Type 0 where

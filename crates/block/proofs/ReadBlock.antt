@@ -31,7 +31,7 @@ use Rattle.block.specs.Check.{checkOf, checkLength}
 use Rattle.block.specs.Read.{Framed, found, unframed, ask, askParities, askEnd, askWalk, askCheck, ReadAnswer, taken, partsOf, outputLength, readBlock, readOutput}
 use Rattle.block.specs.Read as rule
 use Rattle.block.specs.Answers.{block, shapeNumber, readNumber, readValue, ofReadAnswer}
-use Rattle.block.specs.Framings.{noTally, tallied, framingAt, framed, refusal, ofWalk, toldFramed, headerIn, textIn, countedIn, Ordered, Segmented}
+use Rattle.block.specs.Framings.{noTally, tallied, framingAt, framed, refusal, ofWalk, framedAnswer, headerIn, textIn, countedIn, Ordered, Segmented}
 use Rattle.block.proofs.FramingLaws.{segmented, Tallied, tally-counts, framing-shape}
 use Rattle.block.proofs.Stores.{map-append}
 use Rattle.block.proofs.Reading.{Carries, framing-carries}
@@ -105,15 +105,15 @@ pub record Found (m : Method) (p : Parity) (line : List ℕ) (r : Framing) : Typ
   pub rules : rule.framed m p line ≡ found marks field end
   pub framing : r ≡ framingAt field end (tallied noTally 0 marks) (length marks)
 
-pub found-framing : (m : Method) (p : Parity) (line : List ℕ) (r : Framing) → toldFramed (rule.framed m p line) ≡ framed r → Found m p line r
+pub found-framing : (m : Method) (p : Parity) (line : List ℕ) (r : Framing) → framedAnswer (rule.framed m p line) ≡ framed r → Found m p line r
 found-framing m p line r q = go (rule.framed m p line) refl
   where
     go : (x : Framed) → rule.framed m p line ≡ x → Found m p line r
     go (found ks f e) s =
-        let c : framed (framingAt f e (tallied noTally 0 ks) (length ks)) ≡ framed r = sym (ap toldFramed s) ∙ q in
+        let c : framed (framingAt f e (tallied noTally 0 ks) (length ks)) ≡ framed r = sym (ap framedAnswer s) ∙ q in
         record { marks = ks; field = f; end = e; rules = s; framing = cc }
     go (unframed n v) s =
-        let c : refusal n v ≡ framed r = sym (ap toldFramed s) ∙ q in
+        let c : refusal n v ≡ framed r = sym (ap framedAnswer s) ∙ q in
         absurd (let z : _≡_ {A = ℕ} 0 1 = cc in omega arith)
 
 module _ (m : Method) (p : Parity) (line : List ℕ) (r : Framing) (x : Found m p line r) where
@@ -231,17 +231,17 @@ module _ (m : Method) (p : Parity) (line : List ℕ) (r : Framing) (x : Found m 
 
 -- ---- no framing
 
-pub no-framing : (m : Method) (p : Parity) (line : List ℕ) (room : ℕ) {w : WalkEnd} {r : ReadRefusal} → ofWalk w ≡ toldFramed (rule.framed m p line)
+pub no-framing : (m : Method) (p : Parity) (line : List ℕ) (room : ℕ) {w : WalkEnd} {r : ReadRefusal} → ofWalk w ≡ framedAnswer (rule.framed m p line)
     → w ≡ code.Refused r → readBlock m p line room ≡ rule.refusal (readNumber r) (readValue r)
 unfolding readBlock
 no-framing m p line room {w} {r} e q = go (rule.framed m p line) refl
   where
     go : (x : Framed) → rule.framed m p line ≡ x → askCheck m p line room (rule.framed m p line) ≡ rule.refusal (readNumber r) (readValue r)
     go (found ks f d) s =
-        let c : refusal (readNumber r) (readValue r) ≡ framed (framingAt f d (tallied noTally 0 ks) (length ks)) = sym (ap ofWalk q) ∙ e ∙ ap toldFramed s in
+        let c : refusal (readNumber r) (readValue r) ≡ framed (framingAt f d (tallied noTally 0 ks) (length ks)) = sym (ap ofWalk q) ∙ e ∙ ap framedAnswer s in
         absurd (let z : _≡_ {A = ℕ} 0 1 = cc in omega arith)
     go (unframed n v) s =
-        let c : refusal (readNumber r) (readValue r) ≡ refusal n v = sym (ap ofWalk q) ∙ e ∙ ap toldFramed s in
+        let c : refusal (readNumber r) (readValue r) ≡ refusal n v = sym (ap ofWalk q) ∙ e ∙ ap framedAnswer s in
         let i : n ≡ readNumber r = cc in
         let j : v ≡ readValue r = cc in
         ap (askCheck m p line room) s ∙ ap₂ rule.refusal i j

@@ -30,7 +30,7 @@ use Rattle.block.specs.Check.{checkLength}
 use Rattle.block.specs.Read.{Framed, found, unframed, askParities, askEnd, askWalk}
 use Rattle.block.specs.Read as rule
 use Rattle.block.specs.Answers.{readNumber, readValue}
-use Rattle.block.specs.Framings.{noTally, bumped, tallied, segments, framingAt, framed, refusal, ofWalk, stopped, toldBy, told, toldFramed, wrongFrom}
+use Rattle.block.specs.Framings.{noTally, addMark, tallied, segments, framingAt, framed, refusal, ofWalk, stopped, answerAfter, walkAnswer, framedAnswer, wrongFrom}
 use Rattle.block.proofs.FramingLaws.{tally-counts, marks-within}
 
 -- ---- a part of a slice
@@ -97,51 +97,51 @@ parities-right p (b ∷ l) at next h = go (parityRight p b) (λ k. parities-righ
     go true ih k = ih (omega arith)
     go false ih k = absurd (omega arith)
 
--- ---- 13 to 15: what the walk told
+-- ---- 13 to 15: what the walk walkAnswer
 
-told-stopped : (t : Tally) (at : ℕ) (ks : List Mark) (s : Stop) → toldBy t at ks s ≡ stopped (tallied t at ks) (at + length ks) s
-told-stopped t at [] s = ap (λ n. stopped t n s) (sym (add-zero at))
-told-stopped t at (k ∷ ks) s =
+answer-stopped : (t : Tally) (at : ℕ) (ks : List Mark) (s : Stop) → answerAfter t at ks s ≡ stopped (tallied t at ks) (at + length ks) s
+answer-stopped t at [] s = ap (λ n. stopped t n s) (sym (add-zero at))
+answer-stopped t at (k ∷ ks) s =
     let e : at + 1 + length ks ≡ at + suc (length ks) = omega arith in
-    told-stopped (bumped k at t) (at + 1) ks s ∙ ap (λ n. stopped (tallied (bumped k at t) (at + 1) ks) n s) e
+    answer-stopped (addMark k at t) (at + 1) ks s ∙ ap (λ n. stopped (tallied (addMark k at t) (at + 1) ks) n s) e
 
-told-walk : (w : Walked) → told noTally 0 w ≡ stopped (tallied noTally 0 (w .marks)) (length (w .marks)) (w .stop)
-told-walk w = told-stopped noTally 0 (w .marks) (w .stop) ∙ ap (λ n. stopped (tallied noTally 0 (w .marks)) n (w .stop)) (zero-add (length (w .marks)))
+answer-walk : (w : Walked) → walkAnswer noTally 0 w ≡ stopped (tallied noTally 0 (w .marks)) (length (w .marks)) (w .stop)
+answer-walk w = answer-stopped noTally 0 (w .marks) (w .stop) ∙ ap (λ n. stopped (tallied noTally 0 (w .marks)) n (w .stop)) (zero-add (length (w .marks)))
 
--- a walk that told a framing stopped at an end sign
+-- a walk that walkAnswer a framing stopped at an end sign
 pub record FoundBy (w : Walked) (r : Framing) : Type 0 where
   pub field : Field
   pub end : EndSign
   pub stop : w .stop ≡ ended field end
   pub framing : r ≡ framingAt field end (tallied noTally 0 (w .marks)) (length (w .marks))
 
-pub found-by : (w : Walked) (r : Framing) → told noTally 0 w ≡ framed r → FoundBy w r
+pub found-by : (w : Walked) (r : Framing) → walkAnswer noTally 0 w ≡ framed r → FoundBy w r
 found-by w r e = go (w .stop) refl
   where
     go : (s : Stop) → w .stop ≡ s → FoundBy w r
     go (ended f d) q =
         let c : framed r ≡ framed (framingAt f d (tallied noTally 0 (w .marks)) (length (w .marks))) =
-        sym e ∙ told-walk w ∙ ap (stopped (tallied noTally 0 (w .marks)) (length (w .marks))) q in
+        sym e ∙ answer-walk w ∙ ap (stopped (tallied noTally 0 (w .marks)) (length (w .marks))) q in
         record { field = f; end = d; stop = q; framing = cc }
     go (refused n v) q =
-        let c : framed r ≡ refusal n v = sym e ∙ told-walk w ∙ ap (stopped (tallied noTally 0 (w .marks)) (length (w .marks))) q in
+        let c : framed r ≡ refusal n v = sym e ∙ answer-walk w ∙ ap (stopped (tallied noTally 0 (w .marks)) (length (w .marks))) q in
         let z : _≡_ {A = ℕ} 0 1 = cc in
         absurd (omega arith)
 
--- a walk that told a refusal
-pub refused-by : (m : Method) (line : List ℕ) (w : Walked) (n v : ℕ) → told noTally 0 w ≡ refusal n v → toldFramed (askWalk m line w) ≡ refusal n v
+-- a walk that walkAnswer a refusal
+pub refused-by : (m : Method) (line : List ℕ) (w : Walked) (n v : ℕ) → walkAnswer noTally 0 w ≡ refusal n v → framedAnswer (askWalk m line w) ≡ refusal n v
 refused-by m line w n v e = go (w .stop) refl
   where
-    go : (s : Stop) → w .stop ≡ s → toldFramed (askEnd m line (w .marks) (w .stop)) ≡ refusal n v
+    go : (s : Stop) → w .stop ≡ s → framedAnswer (askEnd m line (w .marks) (w .stop)) ≡ refusal n v
     go (ended f d) q =
         let c : refusal n v ≡ framed (framingAt f d (tallied noTally 0 (w .marks)) (length (w .marks))) =
-        sym e ∙ told-walk w ∙ ap (stopped (tallied noTally 0 (w .marks)) (length (w .marks))) q in
+        sym e ∙ answer-walk w ∙ ap (stopped (tallied noTally 0 (w .marks)) (length (w .marks))) q in
         let z : _≡_ {A = ℕ} 0 1 = cc in
         absurd (omega arith)
     go (refused k u) q =
-        let c : told noTally 0 w ≡ refusal k u =
-        told-walk w ∙ ap (stopped (tallied noTally 0 (w .marks)) (length (w .marks))) q in
-        ap (λ s. toldFramed (askEnd m line (w .marks) s)) q ∙ sym c ∙ e
+        let c : walkAnswer noTally 0 w ≡ refusal k u =
+        answer-walk w ∙ ap (stopped (tallied noTally 0 (w .marks)) (length (w .marks))) q in
+        ap (λ s. framedAnswer (askEnd m line (w .marks) s)) q ∙ sym c ∙ e
 
 -- ---- what a framing carries over from the tally
 
@@ -171,7 +171,7 @@ framing-carries ClearDle e t after = carries-either (eqb (t .inner) 0) (carries-
 
 -- ---- 16 and 17
 
-module _ (m : Method) (line : List ℕ) (r : Framing) (e : told noTally 0 (walk (isSeven m) line 0 Start) ≡ framed r) where
+module _ (m : Method) (line : List ℕ) (r : Framing) (e : walkAnswer noTally 0 (walk (isSeven m) line 0 Start) ≡ framed r) where
   abbrev w : Walked
   w = walk (isSeven m) line 0 Start
 
@@ -200,47 +200,47 @@ module _ (m : Method) (line : List ℕ) (r : Framing) (e : told noTally 0 (walk 
   unfolding by-length by-count
   asked = ap (askEnd m line (w .marks)) (by .stop)
 
-  pub wrong-length : (length line ≡ r .after + checkLength m → ⊥) → toldFramed (askWalk m line w) ≡ refusal 16 (r .after)
+  pub wrong-length : (length line ≡ r .after + checkLength m → ⊥) → framedAnswer (askWalk m line w) ≡ refusal 16 (r .after)
   unfolding by-length
   wrong-length h =
       let n = ne-eqb (length line) (length (w .marks) + checkLength m) (λ q. h (q ∙ ap (λ n. n + checkLength m) (sym (carried .behind)))) in
-      ap toldFramed (asked ∙ ap by-length n) ∙ ap (refusal 16) (sym (carried .behind))
+      ap framedAnswer (asked ∙ ap by-length n) ∙ ap (refusal 16) (sym (carried .behind))
 
   module _ (h : length line ≡ r .after + checkLength m) where
     right-length : askWalk m line w ≡ by-count (leb (length (counted (w .marks) line)) 4096)
     unfolding by-length
     right-length = asked ∙ ap by-length (eq-eqb (length line) (length (w .marks) + checkLength m) (h ∙ ap (λ n. n + checkLength m) (carried .behind)))
 
-    pub too-many : 4096 < r .counted → toldFramed (askWalk m line w) ≡ refusal 17 0
+    pub too-many : 4096 < r .counted → framedAnswer (askWalk m line w) ≡ refusal 17 0
     unfolding by-count
-    too-many k = ap toldFramed (right-length ∙ ap by-count (lt-leb (length (counted (w .marks) line)) 4096 (omega (arith, count))))
+    too-many k = ap framedAnswer (right-length ∙ ap by-count (lt-leb (length (counted (w .marks) line)) 4096 (omega (arith, count))))
 
-    pub all-passed : r .counted ≤ 4096 → toldFramed (askWalk m line w) ≡ framed r
+    pub all-passed : r .counted ≤ 4096 → framedAnswer (askWalk m line w) ≡ framed r
     unfolding by-count
     all-passed k =
-        ap toldFramed (right-length ∙ ap by-count (le-leb (length (counted (w .marks) line)) 4096 (omega (arith, count)))) ∙ ap framed (sym (by .framing))
+        ap framedAnswer (right-length ∙ ap by-count (le-leb (length (counted (w .marks) line)) 4096 (omega (arith, count)))) ∙ ap framed (sym (by .framing))
 
 -- ---- the same of the code's walk
 
 module _ (m : Method) (line : List ℕ) {seven : Bool} {result : WalkEnd} (s : seven ≡ isSeven m)
-    (e : ofWalk result ≡ told noTally 0 (walk seven line 0 Start)) where
-  pub told-as : {r : Framing} → result ≡ code.Found r → told noTally 0 (walk (isSeven m) line 0 Start) ≡ framed r
-  told-as q = sym (e ∙ ap (λ t. told noTally 0 (walk t line 0 Start)) s) ∙ ap ofWalk q
+    (e : ofWalk result ≡ walkAnswer noTally 0 (walk seven line 0 Start)) where
+  pub answer-as : {r : Framing} → result ≡ code.Found r → walkAnswer noTally 0 (walk (isSeven m) line 0 Start) ≡ framed r
+  answer-as q = sym (e ∙ ap (λ t. walkAnswer noTally 0 (walk t line 0 Start)) s) ∙ ap ofWalk q
 
-  pub refused-as : {r : ReadRefusal} → result ≡ code.Refused r → ofWalk result ≡ toldFramed (askWalk m line (walk (isSeven m) line 0 Start))
+  pub refused-as : {r : ReadRefusal} → result ≡ code.Refused r → ofWalk result ≡ framedAnswer (askWalk m line (walk (isSeven m) line 0 Start))
   refused-as {r} q =
       ap ofWalk q ∙ sym (refused-by m line (walk (isSeven m) line 0 Start) (readNumber r) (readValue r)
-      (sym (e ∙ ap (λ t. told noTally 0 (walk t line 0 Start)) s) ∙ ap ofWalk q))
+      (sym (e ∙ ap (λ t. walkAnswer noTally 0 (walk t line 0 Start)) s) ∙ ap ofWalk q))
 
 -- ---- 11 and 12
 
 module _ (m : Method) (p : Parity) (line : List ℕ) where
-  pub too-long : 16384 < length line → refusal 11 0 ≡ toldFramed (rule.framed m p line)
+  pub too-long : 16384 < length line → refusal 11 0 ≡ framedAnswer (rule.framed m p line)
   unfolding rule.framed
   too-long h = rw (lt-leb (length line) 16384 h)
 
   module _ (h : length line ≤ 16384) where
-    pub eight-bit : {seven : Bool} → seven ≡ isSeven m → seven ≡ false → toldFramed (askWalk m line (walk (isSeven m) line 0 Start)) ≡ toldFramed (rule.framed m p line)
+    pub eight-bit : {seven : Bool} → seven ≡ isSeven m → seven ≡ false → framedAnswer (askWalk m line (walk (isSeven m) line 0 Start)) ≡ framedAnswer (rule.framed m p line)
     unfolding rule.framed
     eight-bit s e = rw (le-leb (length line) 16384 h, sym s ∙ e)
 
@@ -251,10 +251,10 @@ module _ (m : Method) (p : Parity) (line : List ℕ) where
           ap (λ t. rule.ask t 11 0 (choose (isSeven m) (askParities p line 0 (askWalk m line (walk (isSeven m) line 0 Start))) (askWalk m line (walk (isSeven m) line 0 Start)))) (le-leb (length line) 16384 h)
           ∙ ap (λ t. choose t (askParities p line 0 (askWalk m line (walk (isSeven m) line 0 Start))) (askWalk m line (walk (isSeven m) line 0 Start))) (sym s ∙ e)
 
-      pub wrong-parity : {at : ℕ} → at ≡ wrongFrom p 0 line → at < length line → refusal 12 at ≡ toldFramed (rule.framed m p line)
+      pub wrong-parity : {at : ℕ} → at ≡ wrongFrom p 0 line → at < length line → refusal 12 at ≡ framedAnswer (rule.framed m p line)
       wrong-parity q k =
-          ap (refusal 12) q ∙ sym (ap toldFramed (seven-bit ∙ parities-wrong p line 0 _ (omega arith)))
+          ap (refusal 12) q ∙ sym (ap framedAnswer (seven-bit ∙ parities-wrong p line 0 _ (omega arith)))
 
       pub right-parity : {at : ℕ} → at ≡ wrongFrom p 0 line → length line ≤ at
-          → toldFramed (askWalk m line (walk (isSeven m) line 0 Start)) ≡ toldFramed (rule.framed m p line)
-      right-parity q k = sym (ap toldFramed (seven-bit ∙ parities-right p line 0 _ (omega arith)))
+          → framedAnswer (askWalk m line (walk (isSeven m) line 0 Start)) ≡ framedAnswer (rule.framed m p line)
+      right-parity q k = sym (ap framedAnswer (seven-bit ∙ parities-right p line 0 _ (omega arith)))

@@ -38,16 +38,16 @@ noTally = record { inner = 0; header = 0; text = 0; counted = 0 }
 abbrev pub firstOf : ℕ → ℕ → ℕ
 firstOf inner at = choose (eqb inner 0) at inner
 
-abbrev pub bumped : Mark → ℕ → Tally → Tally
-bumped LeftOut at t = t
-bumped HeaderByte at t = record { inner = t .inner; header = t .header + 1; text = t .text; counted = t .counted + 1 }
-bumped TextByte at t = record { inner = t .inner; header = t .header; text = t .text + 1; counted = t .counted + 1 }
-bumped InnerStart at t = record { inner = firstOf (t .inner) at; header = t .header; text = t .text; counted = t .counted + 1 }
-bumped End at t = record { inner = t .inner; header = t .header; text = t .text; counted = t .counted + 1 }
+abbrev pub addMark : Mark → ℕ → Tally → Tally
+addMark LeftOut at t = t
+addMark HeaderByte at t = record { inner = t .inner; header = t .header + 1; text = t .text; counted = t .counted + 1 }
+addMark TextByte at t = record { inner = t .inner; header = t .header; text = t .text + 1; counted = t .counted + 1 }
+addMark InnerStart at t = record { inner = firstOf (t .inner) at; header = t .header; text = t .text; counted = t .counted + 1 }
+addMark End at t = record { inner = t .inner; header = t .header; text = t .text; counted = t .counted + 1 }
 
 abbrev pub tallied : Tally → ℕ → List Mark → Tally
 tallied t at [] = t
-tallied t at (k ∷ ks) = tallied (bumped k at t) (at + 1) ks
+tallied t at (k ∷ ks) = tallied (addMark k at t) (at + 1) ks
 
 -- no number of a tally is past n
 pub record Small (t : Tally) (n : ℕ) : Type 0 where
@@ -94,33 +94,33 @@ framingAt ClearDle e t after =
     (segments shape.HeaderClearText e t after 1 (t .inner) (t .inner + 2) (after - 2))
 
 -- a framing, or number and value of a refusal
-pub data Told : Type 0 where
-  framed : Framing → Told
-  refusal : ℕ → ℕ → Told
+pub data WalkAnswer : Type 0 where
+  framed : Framing → WalkAnswer
+  refusal : ℕ → ℕ → WalkAnswer
 
-abbrev pub ofWalk : WalkEnd → Told
+abbrev pub ofWalk : WalkEnd → WalkAnswer
 ofWalk (code.Found f) = framed f
 ofWalk (code.Refused r) = refusal (readNumber r) (readValue r)
 
-abbrev pub stopped : Tally → ℕ → Stop → Told
+abbrev pub stopped : Tally → ℕ → Stop → WalkAnswer
 stopped t at (ended f e) = framed (framingAt f e t at)
 stopped t at (refused number value) = refusal number value
 
-abbrev pub toldBy : Tally → ℕ → List Mark → Stop → Told
-toldBy t at [] s = stopped t at s
-toldBy t at (k ∷ ks) s = toldBy (bumped k at t) (at + 1) ks s
+abbrev pub answerAfter : Tally → ℕ → List Mark → Stop → WalkAnswer
+answerAfter t at [] s = stopped t at s
+answerAfter t at (k ∷ ks) s = answerAfter (addMark k at t) (at + 1) ks s
 
 -- what the walk hands on, from the tally t and the place `at` on
-abbrev pub told : Tally → ℕ → Walked → Told
-told t at w = toldBy t at (w .marks) (w .stop)
+abbrev pub walkAnswer : Tally → ℕ → Walked → WalkAnswer
+walkAnswer t at w = answerAfter t at (w .marks) (w .stop)
 
 -- the same of a line that passed 11 to 17
-abbrev pub toldFramed : Framed → Told
-toldFramed (found ks f e) = framed (framingAt f e (tallied noTally 0 ks) (length ks))
-toldFramed (unframed number value) = refusal number value
+abbrev pub framedAnswer : Framed → WalkAnswer
+framedAnswer (found ks f e) = framed (framingAt f e (tallied noTally 0 ks) (length ks))
+framedAnswer (unframed number value) = refusal number value
 
 -- the refusal where no framing was found
-abbrev pub ofUnframed : Told → Numbers
+abbrev pub ofUnframed : WalkAnswer → Numbers
 ofUnframed (framed f) = answers.refused 15 0
 ofUnframed (refusal number value) = answers.refused number value
 

@@ -24,7 +24,7 @@ ghost use Rattle.block.specs.Characters.{isSeven, character};
 ghost use Rattle.block.specs.Walk as rule;
 ghost use Rattle.block.specs.Read.{framed, askWalk, readBlock, readOutput};
 ghost use Rattle.block.specs.Answers.{ofRead, ofReadAnswer};
-ghost use Rattle.block.specs.Framings.{ofWalk, ofUnframed, toldFramed, headerIn, textIn, Ordered, wrongFrom};
+ghost use Rattle.block.specs.Framings.{ofWalk, ofUnframed, framedAnswer, headerIn, textIn, Ordered, wrongFrom};
 
 // The first place where the parity is wrong, or the length where it is right everywhere.
 fn first_wrong(p: Parity, line: &[u8]) -> usize
@@ -43,7 +43,7 @@ fn first_wrong(p: Parity, line: &[u8]) -> usize
 // Questions 13 to 17.
 fn walk_closed(m: Method, line: &[u8]) -> WalkEnd
     requires { ⌜ length (now line) ≤ 16384 ⌝ }
-    ensures { λ r. ⌜ ofWalk r ≡ toldFramed (askWalk m (now (line .entry)) (rule.walk (isSeven m) (now (line .entry)) 0 Field.Start)) ⌝ }
+    ensures { λ r. ⌜ ofWalk r ≡ framedAnswer (askWalk m (now (line .entry)) (rule.walk (isSeven m) (now (line .entry)) 0 Field.Start)) ⌝ }
 {
     let walked = walk(is_seven(m), line);
     let WalkEnd::Found(f) = walked else {
@@ -61,7 +61,7 @@ fn walk_closed(m: Method, line: &[u8]) -> WalkEnd
 
 // Questions 11 to 17.
 fn find_framing(m: Method, p: Parity, line: &[u8]) -> WalkEnd
-    ensures { λ r. ⌜ ofWalk r ≡ toldFramed (framed m p (now (line .entry))) ⌝ }
+    ensures { λ r. ⌜ ofWalk r ≡ framedAnswer (framed m p (now (line .entry))) ⌝ }
 {
     if line.len() > 16384 {
         return WalkEnd::Refused(ReadRefusal::TooLong);

@@ -15,10 +15,10 @@ ghost use mathlib.Core.Path.{_≡_};
 ghost use Prim.Native.Nat.{_-_, _≤_};
 ghost use lib.ListN.{length};
 ghost use Rattle.block.specs.Walk as rule;
-ghost use Rattle.block.specs.Framings.{noTally, firstOf, bumped, segments, framingAt, ofWalk, stopped, told, Small};
+ghost use Rattle.block.specs.Framings.{noTally, firstOf, addMark, segments, framingAt, ofWalk, stopped, walkAnswer, Small};
 
 // The place before, 0 before the first.
-fn prior(at: usize) -> usize
+fn place_before(at: usize) -> usize
     ensures { λ r. ⌜ r ≡ at - 1 ⌝ }
 {
     if at == 0 { 0 } else { at - 1 }
@@ -31,9 +31,9 @@ fn first_of(inner: usize, at: usize) -> usize
 }
 
 // The tally with one more mark, that of the byte at the place `at`.
-fn bump(k: Mark, at: usize, t: Tally) -> Tally
+fn add_mark(k: Mark, at: usize, t: Tally) -> Tally
     requires { ⌜ Small t 16384 ⌝ }
-    ensures { λ r. ⌜ r ≡ bumped k at t ⌝ }
+    ensures { λ r. ⌜ r ≡ addMark k at t ⌝ }
 {
     let inner = t.inner;
     match k {
@@ -96,7 +96,7 @@ fn framing_at(f: Field, end: EndSign, t: Tally, after: usize) -> Framing
     requires { ⌜ Small t 16384 ⌝ }
     ensures { λ r. ⌜ r ≡ framingAt f end t after ⌝ }
 {
-    let last = prior(after);
+    let last = place_before(after);
     let inner = t.inner;
     match f {
         Field::Text => {
@@ -108,7 +108,7 @@ fn framing_at(f: Field, end: EndSign, t: Tally, after: usize) -> Framing
         }
         Field::ClearDle => {
             if inner == 0 {
-                segments_at(Shape::ClearText, end, t, after, 2, 2, 2, prior(last))
+                segments_at(Shape::ClearText, end, t, after, 2, 2, 2, place_before(last))
             } else {
                 segments_at(
                     Shape::HeaderClearText,
@@ -118,7 +118,7 @@ fn framing_at(f: Field, end: EndSign, t: Tally, after: usize) -> Framing
                     1,
                     inner,
                     inner + 2,
-                    prior(last),
+                    place_before(last),
                 )
             }
         }
@@ -147,7 +147,7 @@ fn cut(f: Field) -> WalkEnd
 
 pub fn walk(seven: bool, line: &[u8]) -> WalkEnd
     requires { ⌜ length (now line) ≤ 16384 ⌝ }
-    ensures { λ r. ⌜ ofWalk r ≡ told noTally 0 (rule.walk seven (now (line .entry)) 0 Field.Start) ⌝ }
+    ensures { λ r. ⌜ ofWalk r ≡ walkAnswer noTally 0 (rule.walk seven (now (line .entry)) 0 Field.Start) ⌝ }
 {
     let mut t = Tally {
         inner: 0,
@@ -160,11 +160,11 @@ pub fn walk(seven: bool, line: &[u8]) -> WalkEnd
     while i < line.len() {
         match judge(seven, f, character(seven, line[i])) {
             Judged::Is(k, g) => {
-                t = bump(k, i, t);
+                t = add_mark(k, i, t);
                 f = g;
             }
             Judged::Ends(e) => {
-                let counted = bump(Mark::End, i, t);
+                let counted = add_mark(Mark::End, i, t);
                 return WalkEnd::Found(framing_at(f, e, counted, i + 1));
             }
             Judged::NoStart => {
@@ -174,7 +174,7 @@ pub fn walk(seven: bool, line: &[u8]) -> WalkEnd
                 return WalkEnd::Refused(ReadRefusal::OutOfPlace(BytePlace(i)));
             }
             Judged::DleOutOfPlace => {
-                return WalkEnd::Refused(ReadRefusal::OutOfPlace(BytePlace(prior(i))));
+                return WalkEnd::Refused(ReadRefusal::OutOfPlace(BytePlace(place_before(i))));
             }
         }
         i += 1;

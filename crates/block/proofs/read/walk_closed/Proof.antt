@@ -1,8 +1,8 @@
--- `walk_closed` meets its contract: questions 16 and 17 are put to what the walk told. Assumes nothing.
+-- `walk_closed` meets its contract: questions 16 and 17 are put to what the walk walkAnswer. Assumes nothing.
 use mathlib.Core.Path.{sym}
 use native.Mathlib.Omega.{arith}
 use Rattle.block.proofs.Lengths.{check-short}
-use Rattle.block.proofs.Reading.{told-as, after-small, refused-as, wrong-length, too-many, all-passed}
+use Rattle.block.proofs.Reading.{answer-as, after-small, refused-as, wrong-length, too-many, all-passed}
 use borrow.Author.Needs.{needs}
 use Rattle.block.proofs.read.walk_closed.Statement.{statement}
 use Rattle.block.proofs.read.walk_closed.Tie as tie
@@ -30,25 +30,25 @@ check-length-requires c κs = search needs
 add-if1 : tie.Need-add-if1
 add-if1 c =
     let a = c .before .before .before .before .before .before .before .args in
-    let e = told-as (a .m) (a .line .now) (c .before .before .before .before .before .is-seven .ensures) (c .before .before .before .before .walk .ensures) (c .before .before .walked .given .1) in
+    let e = answer-as (a .m) (a .line .now) (c .before .before .before .before .before .is-seven .ensures) (c .before .before .before .before .walk .ensures) (c .before .before .walked .given .1) in
     omega (arith, after-small (a .m) (a .line .now) _ e (c .before .before .before .before .before .before .before .pre), c .check-length .ensures, check-short (a .m))
 
 returns-2 : tie.Need-returns-2
 returns-2 c =
     let a = c .before .before .before .before .before .before .before .before .args in
-    let e = told-as (a .m) (a .line .now) (c .before .before .before .before .before .before .is-seven .ensures) (c .before .before .before .before .before .walk .ensures) (c .before .before .before .walked .given .1) in
+    let e = answer-as (a .m) (a .line .now) (c .before .before .before .before .before .before .is-seven .ensures) (c .before .before .before .before .before .walk .ensures) (c .before .before .before .walked .given .1) in
     sym (wrong-length (a .m) (a .line .now) _ e (λ q. omega (arith, c .before .check-length .ensures)))
 
 returns-3 : tie.Need-returns-3
 returns-3 c =
     let a = c .before .before .before .before .before .before .before .before .before .before .args in
-    let e = told-as (a .m) (a .line .now) (c .before .before .before .before .before .before .before .before .is-seven .ensures) (c .before .before .before .before .before .before .before .walk .ensures) (c .before .before .before .before .before .walked .given .1) in
+    let e = answer-as (a .m) (a .line .now) (c .before .before .before .before .before .before .before .before .is-seven .ensures) (c .before .before .before .before .before .before .before .walk .ensures) (c .before .before .before .before .before .walked .given .1) in
     sym (too-many (a .m) (a .line .now) _ e (omega (arith, c .before .before .if1 .left, c .before .before .before .check-length .ensures)) (c .if2 .taken))
 
 returns-4 : tie.Need-returns-4
 returns-4 c =
     let a = c .before .before .before .before .before .before .before .before .before .before .args in
-    let e = told-as (a .m) (a .line .now) (c .before .before .before .before .before .before .before .before .is-seven .ensures) (c .before .before .before .before .before .before .before .walk .ensures) (c .before .before .before .before .before .walked .given .1) in
+    let e = answer-as (a .m) (a .line .now) (c .before .before .before .before .before .before .before .before .is-seven .ensures) (c .before .before .before .before .before .before .before .walk .ensures) (c .before .before .before .before .before .walked .given .1) in
     sym (all-passed (a .m) (a .line .now) _ e (omega (arith, c .before .before .if1 .left, c .before .before .before .check-length .ensures)) (c .if2 .left))
 
 pub walk-closed-spec : {M : Type 1} → statement M

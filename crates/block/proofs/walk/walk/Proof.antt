@@ -5,8 +5,8 @@ use native.Mathlib.Omega.{arith}
 use lib.ListN.{length}
 use Rattle.block.specs.declared.Mark.the-variants.{End}
 use Rattle.block.specs.declared.Judged.the-variants.{NoStart, OutOfPlace, DleOutOfPlace}
-use Rattle.block.specs.Framings.{bumped, refusal}
-use Rattle.block.proofs.Turns.{Walking, begin, small-bump, small-widen, on, ends, stops, out, cut-anywhere}
+use Rattle.block.specs.Framings.{addMark, refusal}
+use Rattle.block.proofs.Turns.{Walking, begin, small-add-mark, small-widen, on, ends, stops, out, cut-anywhere}
 use borrow.Author.Needs.{needs}
 use Rattle.block.proofs.walk.walk.Statement.{statement}
 use Rattle.block.proofs.walk.walk.Tie as tie
@@ -32,16 +32,16 @@ judge-requires c κs = search needs
 enum-known-k : tie.Need-enum-known-k Inv-loop μ-loop
 enum-known-k c = search needs
 
-bump-requires : tie.Need-bump-requires Inv-loop μ-loop
-bump-requires c κs =
+add-mark-requires : tie.Need-add-mark-requires Inv-loop μ-loop
+add-mark-requires c κs =
     let l = c .before .before .before .before .before .before .before in
     small-widen (l .loop .t) (l .loop .i) 16384 (omega (arith, l .loop .inv .within, l .loop .inv .size)) (l .loop .inv .small)
 
 enum-known-e : tie.Need-enum-known-e Inv-loop μ-loop
 enum-known-e c = search needs
 
-bump-requires-2 : tie.Need-bump-requires-2 Inv-loop μ-loop
-bump-requires-2 c κs =
+add-mark-requires-2 : tie.Need-add-mark-requires-2 Inv-loop μ-loop
+add-mark-requires-2 c κs =
     let l = c .before .before .before .before .before .before .before in
     small-widen (l .loop .t) (l .loop .i) 16384 (omega (arith, l .loop .inv .within, l .loop .inv .size)) (l .loop .inv .small)
 
@@ -51,15 +51,15 @@ add-framing-at c = omega arith
 framing-at-requires : tie.Need-framing-at-requires Inv-loop μ-loop
 framing-at-requires c κs =
     let l = c .before .before .before .before .before .before .before .before in
-    rw (c .bump2 .ensures)
-    (small-widen (bumped End (l .loop .i) (l .loop .t)) (l .loop .i + 1) 16384 (omega (arith, c .before .before .before .before .before .before .before .loop-test .taken, l .loop .inv .size))
-    (small-bump End (l .loop .t) (l .loop .i) (l .loop .inv .small)))
+    rw (c .add-mark2 .ensures)
+    (small-widen (addMark End (l .loop .i) (l .loop .t)) (l .loop .i + 1) 16384 (omega (arith, c .before .before .before .before .before .before .before .loop-test .taken, l .loop .inv .size))
+    (small-add-mark End (l .loop .t) (l .loop .i) (l .loop .inv .small)))
 
 returns : tie.Need-returns Inv-loop μ-loop
 returns c =
     let l = c .before .before .before .before .before .before .before .before .before in
     ends (l .loop .inv) (c .before .before .before .before .before .before .before .before .loop-test .taken) (c .before .before .before .before .before .before .character .ensures)
-    (c .before .before .before .before .before .judge .ensures) (c .before .before .before .e .given .1) (c .before .bump2 .ensures) (c .framing-at .ensures)
+    (c .before .before .before .before .before .judge .ensures) (c .before .before .before .e .given .1) (c .before .add-mark2 .ensures) (c .framing-at .ensures)
 
 enum-told : tie.Need-enum-told Inv-loop μ-loop
 enum-told c = search needs
@@ -80,13 +80,13 @@ returns-3 c =
 enum-told-3 : tie.Need-enum-told-3 Inv-loop μ-loop
 enum-told-3 c = search needs
 
-prior-requires : tie.Need-prior-requires Inv-loop μ-loop
-prior-requires c κs = search needs
+place-before-requires : tie.Need-place-before-requires Inv-loop μ-loop
+place-before-requires c κs = search needs
 
 returns-4 : tie.Need-returns-4 Inv-loop μ-loop
 returns-4 c =
     let l = c .before .before .before .before .before .before .before in
-    ap (λ n. refusal 14 n) (c .prior .ensures) ∙ stops (l .loop .inv) (c .before .before .before .before .before .before .loop-test .taken) (c .before .before .before .before .character .ensures) (c .before .before .before .judge .ensures) DleOutOfPlace (c .before .enum-told3 .given .1)
+    ap (λ n. refusal 14 n) (c .place-before .ensures) ∙ stops (l .loop .inv) (c .before .before .before .before .before .before .loop-test .taken) (c .before .before .before .before .character .ensures) (c .before .before .before .judge .ensures) DleOutOfPlace (c .before .enum-told3 .given .1)
 
 add-i : tie.Need-add-i Inv-loop μ-loop
 add-i c = omega arith
@@ -97,7 +97,7 @@ loop-less c = omega arith
 loop-again : tie.Need-loop-again Inv-loop μ-loop
 loop-again c =
     let l = c .before .before .before .before .before .before .before .before in
-    on (l .loop .inv) (c .before .before .before .before .before .before .before .loop-test .taken) (c .before .before .before .before .before .character .ensures) (c .before .before .before .before .judge .ensures) (c .before .before .k .given .1) (c .bump .ensures)
+    on (l .loop .inv) (c .before .before .before .before .before .before .before .loop-test .taken) (c .before .before .before .before .before .character .ensures) (c .before .before .before .before .judge .ensures) (c .before .before .k .given .1) (c .add-mark .ensures)
 
 cut-requires : tie.Need-cut-requires Inv-loop μ-loop
 cut-requires c κs = search needs
@@ -118,9 +118,9 @@ walk-spec =
     character-requires
     judge-requires
     enum-known-k
-    bump-requires
+    add-mark-requires
     enum-known-e
-    bump-requires-2
+    add-mark-requires-2
     add-framing-at
     framing-at-requires
     returns
@@ -129,7 +129,7 @@ walk-spec =
     enum-told-2
     returns-3
     enum-told-3
-    prior-requires
+    place-before-requires
     returns-4
     add-i
     loop-less

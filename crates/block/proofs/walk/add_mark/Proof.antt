@@ -1,7 +1,7 @@
--- `bump` meets its contract, mark by mark. Assumes nothing.
+-- `add_mark` meets its contract, mark by mark. Assumes nothing.
 use borrow.Author.Needs.{needs}
-use Rattle.block.proofs.walk.bump.Statement.{statement}
-use Rattle.block.proofs.walk.bump.Tie as tie
+use Rattle.block.proofs.walk.add_mark.Statement.{statement}
+use Rattle.block.proofs.walk.add_mark.Tie as tie
 
 enum-told : tie.Need-enum-told
 enum-told c = search needs
@@ -54,8 +54,8 @@ returns-4 c = rw (c .before .before .enum-told4 .given .1, c .before .first-of .
 returns-5 : tie.Need-returns-5
 returns-5 c = rw (c .before .enum-told5 .given .1)
 
-pub bump-spec : {M : Type 1} → statement M
-bump-spec =
+pub add-mark-spec : {M : Type 1} → statement M
+add-mark-spec =
     tie.close
     (tie.spec
     enum-told
