@@ -37,7 +37,7 @@ slice-at a b c f t p q =
 
 -- a line taken apart as a framing f says: start, header, inner start, text, the last DLE of clear text, end sign, and what stands
 -- after it
-record Laid (seven : Bool) (line : List ℕ) (ks : List Mark) (f : Framing) : Type 0 where
+record Split (seven : Bool) (line : List ℕ) (ks : List Mark) (f : Framing) : Type 0 where
   front : List ℕ
   hs : List ℕ
   is : List ℕ
@@ -55,39 +55,39 @@ record Laid (seven : Bool) (line : List ℕ) (ks : List Mark) (f : Framing) : Ty
   texts : sift isText ks line ≡ keptBytes (isClear (f .shape)) seven false ts
   counts : counted ks line ≡ keptBytes false seven false hs ++ (is ++ (keptBytes (isClear (f .shape)) seven false ts ++ stop ∷ []))
 
-module _ (seven : Bool) (line : List ℕ) (ks : List Mark) (f : Framing) (p : Laid seven line ks f) where
-  laid-length : length line ≡ f .after + length (p .rest)
-  laid-length = ap length (p .split) ∙ simp length-append (omega (arith, p .after))
+module _ (seven : Bool) (line : List ℕ) (ks : List Mark) (f : Framing) (p : Split seven line ks f) where
+  split-length : length line ≡ f .after + length (p .rest)
+  split-length = ap length (p .split) ∙ simp length-append (omega (arith, p .after))
 
-  laid-header : slice (f .head) (f .inner) line ≡ p .hs
-  laid-header =
+  split-header : slice (f .head) (f .inner) line ≡ p .hs
+  split-header =
       ap (slice (f .head) (f .inner)) (p .split)
       ∙ slice-at (p .front) (p .hs) _ (f .head) (f .inner) (sym (p .head)) (sym (p .inner))
 
-  laid-inner : slice (f .inner) (f .body) line ≡ p .is
-  laid-inner =
+  split-inner : slice (f .inner) (f .body) line ≡ p .is
+  split-inner =
       let before : List ℕ = p .front ++ p .hs in
       let split : line ≡ before ++ (p .is ++ (p .ts ++ (p .lead ++ p .stop ∷ p .rest))) = simp append-assoc (p .split) in
       let size : length before ≡ f .inner = simp length-append (sym (p .inner)) in
       ap (slice (f .inner) (f .body)) split ∙ slice-at before (p .is) _ (f .inner) (f .body) size (omega (arith, p .inner, p .body))
 
-  laid-text : slice (f .body) (f .tail) line ≡ p .ts
-  laid-text =
+  split-text : slice (f .body) (f .tail) line ≡ p .ts
+  split-text =
       let before : List ℕ = p .front ++ (p .hs ++ p .is) in
       let split : line ≡ before ++ (p .ts ++ (p .lead ++ p .stop ∷ p .rest)) = simp append-assoc (p .split) in
       let size : length before ≡ f .body = simp length-append (omega (arith, p .body)) in
       ap (slice (f .body) (f .tail)) split ∙ slice-at before (p .ts) _ (f .body) (f .tail) size (omega (arith, p .body, p .tail))
 
-  laid-stop : getD line (f .after - 1) 0 ≡ p .stop
-  laid-stop =
+  split-stop : getD line (f .after - 1) 0 ≡ p .stop
+  split-stop =
       let before : List ℕ = p .front ++ (p .hs ++ (p .is ++ (p .ts ++ p .lead))) in
       let split : line ≡ before ++ p .stop ∷ p .rest = simp append-assoc (p .split) in
       let size : length before ≡ f .after - 1 = simp length-append (omega (arith, p .after)) in
       ap (λ l. getD l (f .after - 1) 0) split ∙ getD-at before (p .stop) (p .rest) 0 (f .after - 1) size
 
-  laid-segmented : Segmented seven line ks f
+  split-segmented : Segmented seven line ks f
   unfolding headerIn textIn countedIn
-  laid-segmented =
+  split-segmented =
       record {
         ordered =
             record {
@@ -95,19 +95,19 @@ module _ (seven : Bool) (line : List ℕ) (ks : List Mark) (f : Framing) (p : La
               inner = omega arith;
               text = omega arith;
               end = omega arith;
-              within = omega (arith, laid-length);
+              within = omega (arith, split-length);
             };
-        headers = p .headers ∙ ap (keptBytes false seven false) (sym laid-header);
-        texts = p .texts ∙ ap (keptBytes (isClear (f .shape)) seven false) (sym laid-text);
-        counts = rw (laid-header, laid-inner, laid-text, laid-stop) (p .counts);
+        headers = p .headers ∙ ap (keptBytes false seven false) (sym split-header);
+        texts = p .texts ∙ ap (keptBytes (isClear (f .shape)) seven false) (sym split-text);
+        counts = rw (split-header, split-inner, split-text, split-stop) (p .counts);
       }
 
 -- ---- the framing of each line
 
-plain-laid : (seven : Bool) (b : ℕ) (l : List ℕ) (ks : List Mark) (e : EndSign) (t : Tally) → Part false seven false l ks
-    → Laid seven (b ∷ l) (LeftOut ∷ ks) (segments shape.Text e t (length (LeftOut ∷ ks)) 1 1 1 (length (LeftOut ∷ ks) - 1))
+plain-split : (seven : Bool) (b : ℕ) (l : List ℕ) (ks : List Mark) (e : EndSign) (t : Tally) → Part false seven false l ks
+    → Split seven (b ∷ l) (LeftOut ∷ ks) (segments shape.Text e t (length (LeftOut ∷ ks)) 1 1 1 (length (LeftOut ∷ ks) - 1))
 unfolding keptBytes
-plain-laid seven b l ks e t p =
+plain-split seven b l ks e t p =
     record {
       front = b ∷ [];
       hs = [];
@@ -127,11 +127,11 @@ plain-laid seven b l ks e t p =
       counts = p .counts;
     }
 
-clear-laid : (seven : Bool) (b c : ℕ) (l : List ℕ) (ks : List Mark) (e : EndSign) (t : Tally) → Part true seven false l ks
-    → Laid seven (b ∷ c ∷ l) (LeftOut ∷ LeftOut ∷ ks)
+clear-split : (seven : Bool) (b c : ℕ) (l : List ℕ) (ks : List Mark) (e : EndSign) (t : Tally) → Part true seven false l ks
+    → Split seven (b ∷ c ∷ l) (LeftOut ∷ LeftOut ∷ ks)
     (segments shape.ClearText e t (length (LeftOut ∷ LeftOut ∷ ks)) 2 2 2 (length (LeftOut ∷ LeftOut ∷ ks) - 2))
 unfolding keptBytes
-clear-laid seven b c l ks e t p =
+clear-split seven b c l ks e t p =
     record {
       front = b ∷ c ∷ [];
       hs = [];
@@ -160,9 +160,9 @@ record Placed (isClearText : Bool) (wide n size : ℕ) (f : Framing) : Type 0 wh
   after : f .after ≡ size
   clear : isClear (f .shape) ≡ isClearText
 
-headed-laid : (seven : Bool) (f : Field) (b : ℕ) (l : List ℕ) (ks : List Mark) (p : Headed seven f l ks) (g : Framing)
-    → Placed (p .clear) (p .wide) (length (p .head)) (length (LeftOut ∷ ks)) g → Laid seven (b ∷ l) (LeftOut ∷ ks) g
-headed-laid seven f b l ks p g h =
+headed-split : (seven : Bool) (f : Field) (b : ℕ) (l : List ℕ) (ks : List Mark) (p : Headed seven f l ks) (g : Framing)
+    → Placed (p .clear) (p .wide) (length (p .head)) (length (LeftOut ∷ ks)) g → Split seven (b ∷ l) (LeftOut ∷ ks) g
+headed-split seven f b l ks p g h =
     record {
       front = b ∷ [];
       hs = p .head;
@@ -205,18 +205,18 @@ clear-framing : (e : EndSign) (t : Tally) (n : ℕ) → t .inner ≡ 0
 unfolding framingAt
 clear-framing e t n h = rw h
 
-line-laid : (seven : Bool) (f : Field) (line : List ℕ) (ks : List Mark) (e : EndSign) → Line seven f line ks
-    → Laid seven line ks (framingAt f e (tallied noTally 0 ks) (length ks))
-line-laid seven f line ks e (plain b l ms p) =
+line-split : (seven : Bool) (f : Field) (line : List ℕ) (ks : List Mark) (e : EndSign) → Line seven f line ks
+    → Split seven line ks (framingAt f e (tallied noTally 0 ks) (length ks))
+line-split seven f line ks e (plain b l ms p) =
     let t : Tally = tallied noTally 1 ms in
-    rw (plain-framing e t (length (LeftOut ∷ ms)) (inner-kept noTally 1 ms (p .inner))) (plain-laid seven b l ms e t p)
-line-laid seven f line ks e (clear b c l ms p) =
+    rw (plain-framing e t (length (LeftOut ∷ ms)) (inner-kept noTally 1 ms (p .inner))) (plain-split seven b l ms e t p)
+line-split seven f line ks e (clear b c l ms p) =
     let t : Tally = tallied noTally 2 ms in
-    rw (clear-framing e t (length (LeftOut ∷ LeftOut ∷ ms)) (inner-kept noTally 2 ms (p .inner))) (clear-laid seven b c l ms e t p)
-line-laid seven f line ks e (headed g b l ms p) =
+    rw (clear-framing e t (length (LeftOut ∷ LeftOut ∷ ms)) (inner-kept noTally 2 ms (p .inner))) (clear-split seven b c l ms e t p)
+line-split seven f line ks e (headed g b l ms p) =
     let t : Tally = tallied noTally 1 ms in
     let n : ℕ = length (LeftOut ∷ ms) in
-    headed-laid seven g b l ms p (framingAt g e t n)
+    headed-split seven g b l ms p (framingAt g e t n)
     (kind-placed g (p .clear) (p .wide) (length (p .head)) n e t (p .kind) (p .place noTally 1 refl (omega arith))
     (λ z. omega (arith, p .size, p .alone z)))
 
@@ -224,7 +224,7 @@ line-laid seven f line ks e (headed g b l ms p) =
 pub segmented : (seven : Bool) (line : List ℕ) (ks : List Mark) (f : Field) (e : EndSign)
     → walk seven line 0 Start ≡ record { marks = ks; stop = ended f e }
     → Segmented seven line ks (framingAt f e (tallied noTally 0 ks) (length ks))
-segmented seven line ks f e h = laid-segmented seven line ks _ (line-laid seven f line ks e (line-of seven line ks f e h))
+segmented seven line ks f e h = split-segmented seven line ks _ (line-split seven f line ks e (line-of seven line ks f e h))
 
 -- ---- the shape
 
