@@ -4,11 +4,18 @@ use crate::Shape;
 use crate::check::check_length;
 use crate::segments::is_clear;
 use crate::signs::DLE;
+use cyclic::Cyclic3;
 ghost use mathlib.Core.Path.{_≡_};
 ghost use Prim.Native.Nat.{_+_, _≤_};
 ghost use lib.ListN.{length};
 ghost use Rattle.block.specs.Write as rule;
 ghost use Rattle.block.specs.Writing.{bodyLength, lineLength};
+
+// Question 11: the most bytes of a line.
+pub const LINE_LIMIT: usize = 16384;
+
+// Questions 5 and 17: the most bytes that a block counts, in every method what methods 3 and 4 allow.
+pub const COUNTED_LIMIT: usize = Cyclic3::LIMIT;
 
 fn start_length(shape: Shape) -> usize
     ensures { λ r. ⌜ r ≡ length (rule.startSigns shape) ⌝ }

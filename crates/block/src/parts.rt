@@ -1,5 +1,6 @@
 // The questions on the parts of a block to be written: 1, 4, 2, 3 and 5.
 use crate::Shape;
+use crate::length::COUNTED_LIMIT;
 use crate::length::inner_length;
 use crate::signs::DLE;
 use crate::signs::ETB;
@@ -83,11 +84,11 @@ pub fn first_reserved_text(seven: bool, clear: bool, text: &[u8]) -> usize
 pub fn count_fits(shape: Shape, header: usize, text: usize) -> bool
     ensures { λ r. ⌜ r ≡ leb (header + length (rule.innerSigns shape) + text + 1) 4096 ⌝ }
 {
-    if header > 4096 {
+    if header > COUNTED_LIMIT {
         return false;
     }
-    if text > 4096 {
+    if text > COUNTED_LIMIT {
         return false;
     }
-    header + inner_length(shape) + text + 1 <= 4096
+    header + inner_length(shape) + text + 1 <= COUNTED_LIMIT
 }

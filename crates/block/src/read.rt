@@ -10,6 +10,8 @@ use crate::ReadRefusal;
 use crate::WalkEnd;
 use crate::check::check_length;
 use crate::check::check_right;
+use crate::length::COUNTED_LIMIT;
+use crate::length::LINE_LIMIT;
 use crate::segments::copy_part;
 use crate::segments::is_clear;
 use crate::signs::is_seven;
@@ -53,7 +55,7 @@ fn walk_closed(m: Method, line: &[u8]) -> WalkEnd
     if line.len() != after + check_length(m) {
         return WalkEnd::Refused(ReadRefusal::CheckLength(BytePlace(after)));
     }
-    if f.counted > 4096 {
+    if f.counted > COUNTED_LIMIT {
         return WalkEnd::Refused(ReadRefusal::TooManyCounted);
     }
     walked
@@ -63,7 +65,7 @@ fn walk_closed(m: Method, line: &[u8]) -> WalkEnd
 fn find_framing(m: Method, p: Parity, line: &[u8]) -> WalkEnd
     ensures { λ r. ⌜ ofWalk r ≡ framedAnswer (framed m p (now (line .entry))) ⌝ }
 {
-    if line.len() > 16384 {
+    if line.len() > LINE_LIMIT {
         return WalkEnd::Refused(ReadRefusal::TooLong);
     }
     if !is_seven(m) {
