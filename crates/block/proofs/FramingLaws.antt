@@ -2,7 +2,7 @@
 use mathlib.Core.Path.{_≡_, refl, sym, ap, _∙_}
 use Prim.Native.Nat.{ℕ, _+_, _-_, _≤_}
 use native.Mathlib.Omega.{arith}
-use mathlib.Core.Bool.{Bool, true, false, not}
+use mathlib.Core.Bool.{Bool, true, false, cond, not}
 use mathlib.Core.List.{List, [], _∷_, _++_, append-assoc}
 use lib.Dec.{eqb}
 use lib.ListN.{length, drop, getD, length-append}
@@ -17,7 +17,7 @@ use Rattle.block.specs.declared.Judged.{Judged}
 use Rattle.block.specs.declared.Judged.the-variants.{Is, Ends, NoStart, OutOfPlace, DleOutOfPlace}
 use Rattle.block.specs.declared.Tally.{Tally}
 use Rattle.block.specs.declared.Framing.{Framing}
-use Rattle.block.specs.Signs.{choose, signOf}
+use Rattle.block.specs.Signs.{signOf}
 use Rattle.block.specs.Characters.{character}
 use Rattle.block.specs.Walk.{judge}
 use Rattle.block.specs.Walk.{ended, Walked, onward, walk}
@@ -156,7 +156,7 @@ record Placed (isClearText : Bool) (wide n size : ℕ) (f : Framing) : Type 0 wh
   head : f .head ≡ 1
   inner : f .inner ≡ 1 + n
   body : f .body ≡ 1 + n + wide
-  tail : f .tail ≡ size - (1 + choose isClearText 1 0)
+  tail : f .tail ≡ size - (1 + cond isClearText 1 0)
   after : f .after ≡ size
   clear : isClear (f .shape) ≡ isClearText
 
@@ -183,7 +183,7 @@ headed-split seven f b l ks p g h =
     }
 
 kind-placed : (f : Field) (c : Bool) (wide n size : ℕ) (e : EndSign) (t : Tally) → Kind f c wide
-    → t .inner ≡ choose (eqb wide 0) 0 (1 + n) → (wide ≡ 0 → size ≡ 1 + n + 1) → Placed c wide n size (framingAt f e t size)
+    → t .inner ≡ cond (eqb wide 0) 0 (1 + n) → (wide ≡ 0 → size ≡ 1 + n + 1) → Placed c wide n size (framingAt f e t size)
 unfolding framingAt
 kind-placed f c wide n size e t header-alone i a =
     let m : size ≡ 1 + n + 1 = a refl in
@@ -229,7 +229,7 @@ segmented seven line ks f e h = split-segmented seven line ks _ (line-split seve
 -- ---- the shape
 
 -- a number that is 0 just where t holds
-zero-by : (t : Bool) (n m : ℕ) (has : Bool) → n ≡ choose t 0 (1 + m) → has ≡ not t → eqb n 0 ≡ not has
+zero-by : (t : Bool) (n m : ℕ) (has : Bool) → n ≡ cond t 0 (1 + m) → has ≡ not t → eqb n 0 ≡ not has
 zero-by true n m has p q = rw (p, q)
 zero-by false n m has p q = not-zero n m p ∙ ap not (sym q)
 

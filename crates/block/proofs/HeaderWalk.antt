@@ -3,7 +3,7 @@ use mathlib.Core.Path.{_≡_, refl, sym, ap, subst, _∙_}
 use Prim.Native.Nat.{ℕ, _+_, _-_, _<_}
 use native.Mathlib.Nat.{add-zero}
 use native.Mathlib.Omega.{arith}
-use mathlib.Core.Bool.{Bool, true, false, not, true≢false}
+use mathlib.Core.Bool.{Bool, true, false, cond, not, true≢false}
 use mathlib.Core.List.{List, [], _∷_, _++_}
 use lib.Dec.{eqb}
 use lib.ListN.{length}
@@ -14,7 +14,7 @@ use Rattle.block.specs.declared.Mark.the-variants.{LeftOut, HeaderByte, 
 use Rattle.block.specs.declared.Field.{Field}
 use Rattle.block.specs.declared.Field.the-variants.{Start, StartDle, Header, HeaderDle, Text, Clear, ClearDle}
 use Rattle.block.specs.declared.Tally.{Tally}
-use Rattle.block.specs.Signs.{Sign, soh, stx, etx, dle, syn, etb, us, other, choose, signOf}
+use Rattle.block.specs.Signs.{Sign, soh, stx, etx, dle, syn, etb, us, other, signOf}
 use Rattle.block.specs.Characters.{character}
 use Rattle.block.specs.Walk.{inStart, inStartDle, inHeader, inHeaderDle}
 use Rattle.block.specs.Walk.{ended, Walked, onward, walk}
@@ -72,7 +72,7 @@ pub record Headed (seven : Bool) (f : Field) (l : List ℕ) (ks : List Mark) : T
   pub texts : sift isText ks l ≡ sift isText marks tail
   pub counts : counted ks l ≡ keptBytes false seven false head ++ (inner ++ counted marks tail)
   pub has : hasInner ks ≡ not (eqb wide 0)
-  pub place : (t : Tally) (at : ℕ) → t .inner ≡ 0 → 0 < at → tallied t at ks .inner ≡ choose (eqb wide 0) 0 (at + length head)
+  pub place : (t : Tally) (at : ℕ) → t .inner ≡ 0 → 0 < at → tallied t at ks .inner ≡ cond (eqb wide 0) 0 (at + length head)
 
 headed-end : (seven : Bool) (f : Field) (b : ℕ) (rest : List ℕ) → f ≡ Header → Headed seven f (b ∷ rest) (End ∷ [])
 unfolding keptBytes
@@ -172,7 +172,7 @@ module _ (seven : Bool) (f : Field) (l : List ℕ) (ks : List Mark) (p : Headed 
         texts = p .texts;
         counts = ap (λ z. b ∷ z) (p .counts) ∙ ap (λ z. z ++ (p .inner ++ counted (p .marks) (p .tail))) (sym (k (p .head)));
         has = p .has;
-        place = λ t at z n. p .place _ (at + 1) z (omega arith) ∙ ap (choose (eqb (p .wide) 0) 0) (omega arith);
+        place = λ t at z n. p .place _ (at + 1) z (omega arith) ∙ ap (cond (eqb (p .wide) 0) 0) (omega arith);
       }
 
   headed-left-out : (b : ℕ) → ((bs : List ℕ) → keptBytes false seven false (b ∷ bs) ≡ keptBytes false seven false bs)
@@ -195,7 +195,7 @@ module _ (seven : Bool) (f : Field) (l : List ℕ) (ks : List Mark) (p : Headed 
         texts = p .texts;
         counts = p .counts ∙ ap (λ z. z ++ (p .inner ++ counted (p .marks) (p .tail))) (sym (k (p .head)));
         has = p .has;
-        place = λ t at z n. p .place t (at + 1) z (omega arith) ∙ ap (choose (eqb (p .wide) 0) 0) (omega arith);
+        place = λ t at z n. p .place t (at + 1) z (omega arith) ∙ ap (cond (eqb (p .wide) 0) 0) (omega arith);
       }
 
 -- behind a DLE

@@ -1,12 +1,12 @@
 -- What one byte adds to the kept bytes, by its sign. Assumes nothing.
 use mathlib.Core.Path.{_≡_, refl, ap, _∙_}
 use Prim.Native.Nat.{ℕ}
-use mathlib.Core.Bool.{Bool, true, false, not}
+use mathlib.Core.Bool.{Bool, true, false, cond, not}
 use mathlib.Core.List.{List, _∷_}
 use lib.Dec.{eqb}
 use borrow.Author.Tests.{eqb-true}
 use Rattle.bits.specs.Differences.{consIf}
-use Rattle.block.specs.Signs.{SOH, STX, ETX, DLE, SYN, ETB, US, Sign, soh, stx, etx, dle, syn, etb, us, other, choose, signOf}
+use Rattle.block.specs.Signs.{SOH, STX, ETX, DLE, SYN, ETB, US, Sign, soh, stx, etx, dle, syn, etb, us, other, signOf}
 use Rattle.block.specs.Characters.{character}
 use Rattle.block.specs.Framings.{isKept, nextBehind, keptBytes}
 
@@ -32,12 +32,12 @@ isDle etb = false
 isDle us = false
 isDle other = false
 
--- one `choose` of `signOf`, where the test is against v
+-- one `cond` of `signOf`, where the test is against v
 else-test : (is : Sign → Bool) (b v c : ℕ) (s r : Sign) → eqb c v ≡ is s → (eqb b c ≡ false → eqb b v ≡ is r)
-    → eqb b v ≡ is (choose (eqb b c) s r)
+    → eqb b v ≡ is (cond (eqb b c) s r)
 else-test is b v c s r p q = go (eqb b c) refl
   where
-    go : (t : Bool) → eqb b c ≡ t → eqb b v ≡ is (choose t s r)
+    go : (t : Bool) → eqb b c ≡ t → eqb b v ≡ is (cond t s r)
     go true e = ap (λ n. eqb n v) (eqb-true b c e) ∙ p
     go false e = q e
 

@@ -3,7 +3,7 @@ use mathlib.Core.Path.{_≡_, refl, sym, ap, ap₂, _∙_}
 use Prim.Native.Nat.{ℕ, suc, _+_, _*_, _≤_, _<_}
 use native.Mathlib.Numerals.{add-one}
 use native.Mathlib.Omega.{arith}
-use mathlib.Core.Bool.{Bool, true, false}
+use mathlib.Core.Bool.{Bool, true, false, cond}
 use mathlib.Core.List.{List, [], _∷_, _++_}
 use lib.Dec.{eqb}
 use lib.ListN.{length, getD, drop, length-append, length-map, drop-of-length-le}
@@ -22,7 +22,7 @@ use Rattle.block.specs.declared.Parity.{Parity}
 use Rattle.block.specs.declared.Shape.{Shape}
 use Rattle.block.specs.declared.Shape.the-variants as shape
 use Rattle.block.specs.declared.EndSign.{EndSign}
-use Rattle.block.specs.Signs.{DLE, endByte, choose}
+use Rattle.block.specs.Signs.{DLE, endByte}
 use Rattle.block.specs.Characters.{isSeven, isOdd, sent}
 use Rattle.block.specs.Check.{columnSums, matrixCheck, checkOf, checkLength}
 use Rattle.block.specs.Write.{isClear, startSigns, innerSigns, doubled, escaped, countedBytes, framedBytes, lineOf}
@@ -53,7 +53,7 @@ check-short method.CyclicAlternative = omega arith
 
 -- ---- escaped text: a loop that counts it up
 
-length-doubled : (t : Bool) (b : ℕ) (bs : List ℕ) → length (doubled t b bs) ≡ choose t 2 1 + length bs
+length-doubled : (t : Bool) (b : ℕ) (bs : List ℕ) → length (doubled t b bs) ≡ cond t 2 1 + length bs
 length-doubled true b bs = omega arith
 length-doubled false b bs = omega arith
 
@@ -76,7 +76,7 @@ pub record Counting (part : List ℕ) (n i : ℕ) : Type 0 where
   pub rest : n + length (escaped (drop i part)) ≡ length (escaped part)
 
 module _ {part : List ℕ} {n i : ℕ} (k : Counting part n i) (h : i < length part) where
-  here : length (escaped (drop i part)) ≡ choose (eqb (getD part i 0) DLE) 2 1 + length (escaped (drop (i + 1) part))
+  here : length (escaped (drop i part)) ≡ cond (eqb (getD part i 0) DLE) 2 1 + length (escaped (drop (i + 1) part))
   unfolding escaped
   here = rw (drop-cons part i 0 h, add-one) (length-doubled (eqb (getD part i 0) DLE) (getD part i 0) (escaped (drop (suc i) part)))
 

@@ -1,6 +1,7 @@
 -- Document 01's numbers tell every answer apart: each is read back from them. Assumes nothing.
 use mathlib.Core.Path.{_≡_, refl, sym, ap, ap₂, _∙_}
 use Prim.Native.Nat.{ℕ}
+use mathlib.Core.Bool.{cond}
 use lib.Dec.{eqb}
 use Rattle.block.specs.declared.Shape.{Shape}
 use Rattle.block.specs.declared.Shape.the-variants as shape
@@ -14,17 +15,17 @@ use Rattle.block.specs.declared.WriteRefusal.{WriteRefusal}
 use Rattle.block.specs.declared.WriteRefusal.the-variants as writing
 use Rattle.block.specs.declared.BlockWritten.{BlockWritten}
 use Rattle.block.specs.declared.BlockWritten.the-variants as written
-use Rattle.block.specs.Signs.{ETX, ETB, endByte, choose}
+use Rattle.block.specs.Signs.{ETX, ETB, endByte}
 use Rattle.block.specs.Answers.{Numbers, block, line, refused, shapeNumber, readNumber, readValue, ofRead, writeNumber, writeValue, ofWritten}
 
 -- ---- shape and end sign
 
 shapeFrom : ℕ → Shape
 shapeFrom n =
-    choose (eqb n 1) shape.Header
-    (choose (eqb n 2) shape.Text
-    (choose (eqb n 3) shape.HeaderText
-    (choose (eqb n 4) shape.ClearText shape.HeaderClearText)))
+    cond (eqb n 1) shape.Header
+    (cond (eqb n 2) shape.Text
+    (cond (eqb n 3) shape.HeaderText
+    (cond (eqb n 4) shape.ClearText shape.HeaderClearText)))
 
 shape-back : (s : Shape) → shapeFrom (shapeNumber s) ≡ s
 unfolding shapeFrom
@@ -35,7 +36,7 @@ shape-back shape.ClearText = refl
 shape-back shape.HeaderClearText = refl
 
 endFrom : ℕ → EndSign
-endFrom b = choose (eqb b ETX) Etx (choose (eqb b ETB) Etb Us)
+endFrom b = cond (eqb b ETX) Etx (cond (eqb b ETB) Etb Us)
 
 end-back : (e : EndSign) → endFrom (endByte e) ≡ e
 unfolding endFrom
@@ -47,14 +48,14 @@ end-back Us = refl
 
 readRefusalFrom : ℕ → ℕ → ReadRefusal
 readRefusalFrom n v =
-    choose (eqb n 11) reading.TooLong
-    (choose (eqb n 12) (reading.WrongParity (record { 0 = v }))
-    (choose (eqb n 13) reading.NoStart
-    (choose (eqb n 14) (reading.OutOfPlace (record { 0 = v }))
-    (choose (eqb n 15) reading.NoEnd
-    (choose (eqb n 16) (reading.CheckLength (record { 0 = v }))
-    (choose (eqb n 17) reading.TooManyCounted
-    (choose (eqb n 18) reading.WrongCheck (reading.OutputShort v))))))))
+    cond (eqb n 11) reading.TooLong
+    (cond (eqb n 12) (reading.WrongParity (record { 0 = v }))
+    (cond (eqb n 13) reading.NoStart
+    (cond (eqb n 14) (reading.OutOfPlace (record { 0 = v }))
+    (cond (eqb n 15) reading.NoEnd
+    (cond (eqb n 16) (reading.CheckLength (record { 0 = v }))
+    (cond (eqb n 17) reading.TooManyCounted
+    (cond (eqb n 18) reading.WrongCheck (reading.OutputShort v))))))))
 
 read-refusal-back : (r : ReadRefusal) → readRefusalFrom (readNumber r) (readValue r) ≡ r
 unfolding readRefusalFrom
@@ -87,11 +88,11 @@ ofRead-injective r s e = sym (read-back r) ∙ ap readFrom e ∙ read-back s
 
 writeRefusalFrom : ℕ → ℕ → WriteRefusal
 writeRefusalFrom n v =
-    choose (eqb n 1) writing.NotCarried
-    (choose (eqb n 2) (writing.HeaderByte (record { 0 = v }))
-    (choose (eqb n 3) (writing.TextByte (record { 0 = v }))
-    (choose (eqb n 4) writing.PartNotEmpty
-    (choose (eqb n 5) writing.TooManyCounted (writing.OutputShort v)))))
+    cond (eqb n 1) writing.NotCarried
+    (cond (eqb n 2) (writing.HeaderByte (record { 0 = v }))
+    (cond (eqb n 3) (writing.TextByte (record { 0 = v }))
+    (cond (eqb n 4) writing.PartNotEmpty
+    (cond (eqb n 5) writing.TooManyCounted (writing.OutputShort v)))))
 
 write-refusal-back : (r : WriteRefusal) → writeRefusalFrom (writeNumber r) (writeValue r) ≡ r
 unfolding writeRefusalFrom

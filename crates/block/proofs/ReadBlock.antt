@@ -3,7 +3,7 @@ use mathlib.Core.Path.{_≡_, refl, sym, ap, ap₂, subst, _∙_}
 use Prim.Native.Nat.{ℕ, _+_, _≤_, _<_}
 use native.Mathlib.Nat.{zero-add}
 use native.Mathlib.Omega.{arith}
-use mathlib.Core.Bool.{Bool, true, false}
+use mathlib.Core.Bool.{Bool, true, false, cond}
 use mathlib.Core.List.{List, [], _∷_, _++_, map}
 use lib.Dec.{leb}
 use lib.ListN.{length, drop, length-append, length-map}
@@ -23,7 +23,7 @@ use Rattle.block.specs.declared.Framing.{Framing}
 use Rattle.block.specs.declared.ReadRefusal.{ReadRefusal}
 use Rattle.block.specs.declared.WalkEnd.{WalkEnd}
 use Rattle.block.specs.declared.WalkEnd.the-variants as code
-use Rattle.block.specs.Signs.{choose, endByte}
+use Rattle.block.specs.Signs.{endByte}
 use Rattle.block.specs.Characters.{isSeven, character, parityRight}
 use Rattle.block.specs.Walk.{Stop, ended, refused, Walked, walk}
 use Rattle.block.specs.Marks.{isHeader, isText, sift, counted, checkBytes, hasInner, shapeOf}
@@ -49,7 +49,7 @@ parities-passed p (b ∷ l) at next ks f e q =
     parities-passed p l (at + 1) next ks f e (ask-passed (parityRight p b) 12 at (askParities p l (at + 1) next) ks f e q .1)
 
 either-passed : (b : Bool) (p : Parity) (line : List ℕ) (next : Framed) (ks : List Mark) (f : Field) (e : EndSign)
-    → choose b (askParities p line 0 next) next ≡ found ks f e → next ≡ found ks f e
+    → cond b (askParities p line 0 next) next ≡ found ks f e → next ≡ found ks f e
 either-passed true p line next ks f e q = parities-passed p line 0 next ks f e q
 either-passed false p line next ks f e q = q
 
@@ -167,8 +167,8 @@ module _ (m : Method) (p : Parity) (line : List ℕ) (r : Framing) (x : Found m 
 
   after-check : ℕ → Bool → ReadAnswer
   after-check room t =
-      choose t
-      (choose (leb (outputLength (partsOf m line ks (x .field) (x .end))) room) (taken (partsOf m line ks (x .field) (x .end)))
+      cond t
+      (cond (leb (outputLength (partsOf m line ks (x .field) (x .end))) room) (taken (partsOf m line ks (x .field) (x .end)))
       (rule.refusal 19 (outputLength (partsOf m line ks (x .field) (x .end)))))
       (rule.refusal 18 0)
 
@@ -188,7 +188,7 @@ module _ (m : Method) (p : Parity) (line : List ℕ) (r : Framing) (x : Found m 
 
     module _ (room : ℕ) (e : right ≡ true) where
       right-check : readBlock m p line room
-          ≡ choose (leb (outputLength (partsOf m line ks (x .field) (x .end))) room) (taken (partsOf m line ks (x .field) (x .end)))
+          ≡ cond (leb (outputLength (partsOf m line ks (x .field) (x .end))) room) (taken (partsOf m line ks (x .field) (x .end)))
           (rule.refusal 19 (outputLength (partsOf m line ks (x .field) (x .end))))
       unfolding after-check
       right-check = answered room ∙ ap (after-check room) (sym checked ∙ e)
@@ -196,14 +196,14 @@ module _ (m : Method) (p : Parity) (line : List ℕ) (r : Framing) (x : Found m 
       pub output-short : room < r .header + r .text → readBlock m p line room ≡ rule.refusal 19 (r .header + r .text)
       output-short h =
           right-check
-          ∙ ap (λ t. choose t (taken (partsOf m line ks (x .field) (x .end))) (rule.refusal 19 (outputLength (partsOf m line ks (x .field) (x .end)))))
+          ∙ ap (λ t. cond t (taken (partsOf m line ks (x .field) (x .end))) (rule.refusal 19 (outputLength (partsOf m line ks (x .field) (x .end)))))
           (lt-leb (outputLength (partsOf m line ks (x .field) (x .end))) room (omega (arith, needed)))
           ∙ ap (rule.refusal 19) (sym needed)
 
       pub is-taken : r .header + r .text ≤ room → readBlock m p line room ≡ taken (partsOf m line ks (x .field) (x .end))
       is-taken h =
           right-check
-          ∙ ap (λ t. choose t (taken (partsOf m line ks (x .field) (x .end))) (rule.refusal 19 (outputLength (partsOf m line ks (x .field) (x .end)))))
+          ∙ ap (λ t. cond t (taken (partsOf m line ks (x .field) (x .end))) (rule.refusal 19 (outputLength (partsOf m line ks (x .field) (x .end)))))
           (le-leb (outputLength (partsOf m line ks (x .field) (x .end))) room (omega (arith, needed)))
 
   -- ---- what a taken block answers and puts out

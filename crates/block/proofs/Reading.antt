@@ -4,7 +4,7 @@ use Prim.Native.Nat.{ℕ, zero, suc, _+_, _-_, _≤_, _<_}
 use native.Mathlib.Nat.{add-zero, zero-add}
 use native.Mathlib.Numerals.{add-one}
 use native.Mathlib.Omega.{arith}
-use mathlib.Core.Bool.{Bool, true, false}
+use mathlib.Core.Bool.{Bool, true, false, cond}
 use mathlib.Core.List.{List, [], _∷_}
 use lib.Dec.{eqb, leb}
 use lib.ListN.{length, getD, take, drop, drop-of-length-le}
@@ -22,7 +22,6 @@ use Rattle.block.specs.declared.Field.{Field}
 use Rattle.block.specs.declared.Field.the-variants.{Start, StartDle, Header, HeaderDle, Text, Clear, ClearDle}
 use Rattle.block.specs.declared.Tally.{Tally}
 use Rattle.block.specs.declared.Framing.{Framing}
-use Rattle.block.specs.Signs.{choose}
 use Rattle.block.specs.Characters.{isSeven, parityRight}
 use Rattle.block.specs.Walk.{Stop, ended, refused, Walked, walk}
 use Rattle.block.specs.Marks.{counted}
@@ -55,17 +54,17 @@ pub record Searching (p : Parity) (line : List ℕ) (i : ℕ) : Type 0 where
 
 module _ {p : Parity} {line : List ℕ} {i : ℕ} (w : Searching p line i) where
   module _ (h : i < length line) {right : Bool} (r : right ≡ parityRight p (getD line i 0)) where
-    at-byte : choose right (wrongFrom p (i + 1) (drop (i + 1) line)) i ≡ wrongFrom p 0 line
+    at-byte : cond right (wrongFrom p (i + 1) (drop (i + 1) line)) i ≡ wrongFrom p 0 line
     at-byte =
-        ap (λ t. choose t (wrongFrom p (i + 1) (drop (i + 1) line)) i) r
-        ∙ ap (λ n. choose (parityRight p (getD line i 0)) (wrongFrom p (i + 1) (drop n line)) i) (add-one i)
+        ap (λ t. cond t (wrongFrom p (i + 1) (drop (i + 1) line)) i) r
+        ∙ ap (λ n. cond (parityRight p (getD line i 0)) (wrongFrom p (i + 1) (drop n line)) i) (add-one i)
         ∙ sym (ap (wrongFrom p i) (drop-cons line i 0 h)) ∙ w .rest
 
     pub search-on : right ≡ true → Searching p line (i + 1)
-    search-on e = record { within = omega arith; rest = sym (ap (λ t. choose t (wrongFrom p (i + 1) (drop (i + 1) line)) i) e) ∙ at-byte }
+    search-on e = record { within = omega arith; rest = sym (ap (λ t. cond t (wrongFrom p (i + 1) (drop (i + 1) line)) i) e) ∙ at-byte }
 
     pub search-stops : right ≡ false → i ≡ wrongFrom p 0 line
-    search-stops e = sym (ap (λ t. choose t (wrongFrom p (i + 1) (drop (i + 1) line)) i) e) ∙ at-byte
+    search-stops e = sym (ap (λ t. cond t (wrongFrom p (i + 1) (drop (i + 1) line)) i) e) ∙ at-byte
 
   pub search-ends : length line ≤ i → i ≡ wrongFrom p 0 line
   search-ends h = sym (ap (wrongFrom p i) (drop-of-length-le line h)) ∙ w .rest
@@ -74,7 +73,7 @@ wrong-at-least : (p : Parity) (at : ℕ) (l : List ℕ) → at ≤ wrongFrom p a
 wrong-at-least p at [] = omega arith
 wrong-at-least p at (b ∷ l) = go (parityRight p b) (wrong-at-least p (at + 1) l)
   where
-    go : (t : Bool) → at + 1 ≤ wrongFrom p (at + 1) l → at ≤ choose t (wrongFrom p (at + 1) l) at
+    go : (t : Bool) → at + 1 ≤ wrongFrom p (at + 1) l → at ≤ cond t (wrongFrom p (at + 1) l) at
     go true h = omega arith
     go false h = omega arith
 
@@ -83,8 +82,8 @@ parities-wrong p [] at next h = absurd (omega arith)
 parities-wrong p (b ∷ l) at next h = go (parityRight p b) (λ k. parities-wrong p l (at + 1) next k) h
   where
     go : (t : Bool) → (wrongFrom p (at + 1) l < at + 1 + length l → askParities p l (at + 1) next ≡ unframed 12 (wrongFrom p (at + 1) l))
-        → choose t (wrongFrom p (at + 1) l) at < at + suc (length l)
-        → choose t (askParities p l (at + 1) next) (unframed 12 at) ≡ unframed 12 (choose t (wrongFrom p (at + 1) l) at)
+        → cond t (wrongFrom p (at + 1) l) at < at + suc (length l)
+        → cond t (askParities p l (at + 1) next) (unframed 12 at) ≡ unframed 12 (cond t (wrongFrom p (at + 1) l) at)
     go true ih k = ih (omega arith)
     go false ih k = refl
 
@@ -93,7 +92,7 @@ parities-right p [] at next h = refl
 parities-right p (b ∷ l) at next h = go (parityRight p b) (λ k. parities-right p l (at + 1) next k) h
   where
     go : (t : Bool) → (at + 1 + length l ≤ wrongFrom p (at + 1) l → askParities p l (at + 1) next ≡ next)
-        → at + suc (length l) ≤ choose t (wrongFrom p (at + 1) l) at → choose t (askParities p l (at + 1) next) (unframed 12 at) ≡ next
+        → at + suc (length l) ≤ cond t (wrongFrom p (at + 1) l) at → cond t (askParities p l (at + 1) next) (unframed 12 at) ≡ next
     go true ih k = ih (omega arith)
     go false ih k = absurd (omega arith)
 
@@ -155,7 +154,7 @@ pub record Carries (e : EndSign) (t : Tally) (after : ℕ) (r : Framing) : Type 
 carries-segments : (s : Shape) (e : EndSign) (t : Tally) (after head inner body tail : ℕ) → Carries e t after (segments s e t after head inner body tail)
 carries-segments s e t after head inner body tail = record { ends = refl; headers = refl; texts = refl; counts = refl; behind = refl }
 
-carries-either : (b : Bool) {e : EndSign} {t : Tally} {after : ℕ} {x y : Framing} → Carries e t after x → Carries e t after y → Carries e t after (choose b x y)
+carries-either : (b : Bool) {e : EndSign} {t : Tally} {after : ℕ} {x y : Framing} → Carries e t after x → Carries e t after y → Carries e t after (cond b x y)
 carries-either true p q = p
 carries-either false p q = q
 
@@ -248,8 +247,8 @@ module _ (m : Method) (p : Parity) (line : List ℕ) where
       seven-bit : rule.framed m p line ≡ askParities p line 0 (askWalk m line (walk (isSeven m) line 0 Start))
       unfolding rule.framed
       seven-bit =
-          ap (λ t. rule.ask t 11 0 (choose (isSeven m) (askParities p line 0 (askWalk m line (walk (isSeven m) line 0 Start))) (askWalk m line (walk (isSeven m) line 0 Start)))) (le-leb (length line) 16384 h)
-          ∙ ap (λ t. choose t (askParities p line 0 (askWalk m line (walk (isSeven m) line 0 Start))) (askWalk m line (walk (isSeven m) line 0 Start))) (sym s ∙ e)
+          ap (λ t. rule.ask t 11 0 (cond (isSeven m) (askParities p line 0 (askWalk m line (walk (isSeven m) line 0 Start))) (askWalk m line (walk (isSeven m) line 0 Start)))) (le-leb (length line) 16384 h)
+          ∙ ap (λ t. cond t (askParities p line 0 (askWalk m line (walk (isSeven m) line 0 Start))) (askWalk m line (walk (isSeven m) line 0 Start))) (sym s ∙ e)
 
       pub wrong-parity : {at : ℕ} → at ≡ wrongFrom p 0 line → at < length line → refusal 12 at ≡ framedAnswer (rule.framed m p line)
       wrong-parity q k =

@@ -2,7 +2,7 @@
 use mathlib.Core.Path.{_≡_, refl, sym, ap, _∙_}
 use Prim.Native.Nat.{ℕ, _+_}
 use native.Mathlib.Omega.{arith}
-use mathlib.Core.Bool.{Bool, true, false, not}
+use mathlib.Core.Bool.{Bool, true, false, cond, not}
 use mathlib.Core.List.{List, [], _∷_, _++_}
 use lib.ListN.{length}
 use Rattle.bits.specs.Differences.{consIf}
@@ -11,7 +11,7 @@ use Rattle.block.specs.declared.Mark.{Mark}
 use Rattle.block.specs.declared.Mark.the-variants.{LeftOut, TextByte, End}
 use Rattle.block.specs.declared.Field.{Field}
 use Rattle.block.specs.declared.Field.the-variants.{Text, Clear, ClearDle}
-use Rattle.block.specs.Signs.{Sign, soh, stx, etx, dle, syn, etb, us, other, choose, signOf}
+use Rattle.block.specs.Signs.{Sign, soh, stx, etx, dle, syn, etb, us, other, signOf}
 use Rattle.block.specs.Characters.{character}
 use Rattle.block.specs.Walk.{inText, inClear, inClearDle}
 use Rattle.block.specs.Walk.{ended, refused, Walked, ahead, onward, walk}
@@ -29,7 +29,7 @@ pub record Part (clear seven behind : Bool) (l : List ℕ) (ks : List Mark) : Ty
   pub stop : ℕ
   pub rest : List ℕ
   pub split : l ≡ body ++ (lead ++ stop ∷ rest)
-  pub leads : length lead ≡ choose clear 1 0
+  pub leads : length lead ≡ cond clear 1 0
   pub size : length ks ≡ length body + (length lead + 1)
   pub headers : sift isHeader ks l ≡ []
   pub texts : sift isText ks l ≡ keptBytes clear seven behind body

@@ -3,7 +3,7 @@ use mathlib.Core.Path.{_≡_, refl, sym, ap, _∙_}
 use Prim.Native.Nat.{ℕ, _+_, _≤_, _<_}
 use native.Mathlib.Numerals.{add-one}
 use native.Mathlib.Omega.{arith}
-use mathlib.Core.Bool.{Bool, true, false}
+use mathlib.Core.Bool.{Bool, true, false, cond}
 use mathlib.Core.List.{List}
 use lib.Dec.{eqb}
 use lib.ListN.{length, getD, drop, drop-of-length-le}
@@ -17,16 +17,16 @@ use Rattle.block.specs.declared.Judged.{Judged}
 use Rattle.block.specs.declared.Judged.the-variants.{Is, Ends}
 use Rattle.block.specs.declared.Tally.{Tally}
 use Rattle.block.specs.declared.Framing.{Framing}
-use Rattle.block.specs.Signs.{signOf, choose}
+use Rattle.block.specs.Signs.{signOf}
 use Rattle.block.specs.Characters.{character}
 use Rattle.block.specs.Walk.{halt, cut, onward, judge, walk}
 use Rattle.block.specs.Framings.{noTally, addMark, framingAt, framed, stopped, walkAnswer, Small}
 
 -- ---- the tally stays below the place
 
-choose-le : (c : Bool) (a b n : ℕ) → a ≤ n → b ≤ n → choose c a b ≤ n
-choose-le true a b n h k = h
-choose-le false a b n h k = k
+cond-le : (c : Bool) (a b n : ℕ) → a ≤ n → b ≤ n → cond c a b ≤ n
+cond-le true a b n h k = h
+cond-le false a b n h k = k
 
 pub small-add-mark : (k : Mark) (t : Tally) (i : ℕ) → Small t i → Small (addMark k i t) (i + 1)
 small-add-mark LeftOut t i s = record { inner = omega arith; header = omega arith; text = omega arith; counted = omega arith }
@@ -34,7 +34,7 @@ small-add-mark HeaderByte t i s = record { inner = omega arith; header = omega a
 small-add-mark TextByte t i s = record { inner = omega arith; header = omega arith; text = omega arith; counted = omega arith }
 small-add-mark InnerStart t i s =
     record {
-      inner = choose-le (eqb (t .inner) 0) i (t .inner) (i + 1) (omega arith) (omega (arith, s .inner));
+      inner = cond-le (eqb (t .inner) 0) i (t .inner) (i + 1) (omega arith) (omega (arith, s .inner));
       header = omega arith;
       text = omega arith;
       counted = omega arith;

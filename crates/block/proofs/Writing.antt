@@ -2,7 +2,7 @@
 use mathlib.Core.Path.{_≡_, refl, sym, ap, ap₂, _∙_}
 use Prim.Native.Nat.{ℕ, _+_, _≤_, _<_}
 use native.Mathlib.Omega.{arith}
-use mathlib.Core.Bool.{Bool, true, false, not, _&&_, _||_}
+use mathlib.Core.Bool.{Bool, true, false, cond, not, _&&_, _||_}
 use mathlib.Core.List.{List, [], _∷_, _++_, map}
 use lib.Dec.{leb}
 use lib.ListN.{length}
@@ -12,7 +12,7 @@ use Rattle.block.specs.declared.Method.{Method}
 use Rattle.block.specs.declared.Parity.{Parity}
 use Rattle.block.specs.declared.Shape.{Shape}
 use Rattle.block.specs.declared.EndSign.{EndSign}
-use Rattle.block.specs.Signs.{DLE, endByte, choose}
+use Rattle.block.specs.Signs.{DLE, endByte}
 use Rattle.block.specs.Characters.{isSeven, sent}
 use Rattle.block.specs.Check.{checkOf}
 use Rattle.block.specs.Write.{isClear, hasHeader, hasText, startSigns, innerSigns, isEmpty, escaped, countedBytes, countedLength, framedBytes, lineOf}
@@ -93,7 +93,7 @@ module _ (m : Method) (p : Parity) (s : Shape) (e : EndSign) (head body : List �
   count = ask (leb (countedLength s head body) 4096) 5 0 output
 
   abbrev pub text : WriteAnswer
-  text = askFree (isSeven m) 3 (choose (isClear s) [] body) 0 count
+  text = askFree (isSeven m) 3 (cond (isClear s) [] body) 0 count
 
   abbrev pub header : WriteAnswer
   header = askFree (isSeven m) 2 head 0 text
@@ -107,11 +107,11 @@ module _ (m : Method) (p : Parity) (s : Shape) (e : EndSign) (head body : List �
   module _ {seven clear : Bool} (v : seven ≡ isSeven m) (w : clear ≡ isClear s) where
     pub not-carried : {r : Bool} → r ≡ not (seven && clear) → r ≡ false → answer ≡ refusal 1 0
     unfolding writeBlock
-    not-carried q h = ap (λ t. choose t parts (refusal 1 0)) (sym (q ∙ ap₂ (λ t u. not (t && u)) v w) ∙ h)
+    not-carried q h = ap (λ t. cond t parts (refusal 1 0)) (sym (q ∙ ap₂ (λ t u. not (t && u)) v w) ∙ h)
 
     pub carried : {r : Bool} → r ≡ not (seven && clear) → r ≡ true → answer ≡ parts
     unfolding writeBlock
-    carried q h = ap (λ t. choose t parts (refusal 1 0)) (sym (q ∙ ap₂ (λ t u. not (t && u)) v w) ∙ h)
+    carried q h = ap (λ t. cond t parts (refusal 1 0)) (sym (q ∙ ap₂ (λ t u. not (t && u)) v w) ∙ h)
 
     pub eight-or-plain : {r : Bool} → r ≡ not (seven && clear) → r ≡ true → isSeven m && isClear s ≡ false
     eight-or-plain q h = sym (ap₂ _&&_ v w) ∙ not-true (seven && clear) (sym q ∙ h)
@@ -126,35 +126,35 @@ module _ (m : Method) (p : Parity) (s : Shape) (e : EndSign) (head body : List �
         let g : at ≡ reservedFrom (isSeven m) 0 head = q ∙ ap (λ t. reservedFrom t 0 head) v in
         z ∙ ask-passes (isSeven m) 2 text head 0 (omega arith)
 
-    pub text-reserved : {at : ℕ} → answer ≡ text → at ≡ choose clear (length body) (reservedFrom seven 0 body) → at < length body
+    pub text-reserved : {at : ℕ} → answer ≡ text → at ≡ cond clear (length body) (reservedFrom seven 0 body) → at < length body
         → answer ≡ refusal 3 at
     text-reserved {at} z q h =
-        let g : at ≡ choose (isClear s) (length body) (reservedFrom (isSeven m) 0 body) =
-        q ∙ ap₂ (λ t u. choose u (length body) (reservedFrom t 0 body)) v w in
+        let g : at ≡ cond (isClear s) (length body) (reservedFrom (isSeven m) 0 body) =
+        q ∙ ap₂ (λ t u. cond u (length body) (reservedFrom t 0 body)) v w in
         z ∙ text-refuses (isSeven m) (isClear s) 3 count body (rw (← g) h) ∙ ap (refusal 3) (sym g)
 
-    pub text-free : {at : ℕ} → answer ≡ text → at ≡ choose clear (length body) (reservedFrom seven 0 body) → length body ≤ at
+    pub text-free : {at : ℕ} → answer ≡ text → at ≡ cond clear (length body) (reservedFrom seven 0 body) → length body ≤ at
         → answer ≡ count
     text-free {at} z q h =
-        let g : at ≡ choose (isClear s) (length body) (reservedFrom (isSeven m) 0 body) =
-        q ∙ ap₂ (λ t u. choose u (length body) (reservedFrom t 0 body)) v w in
+        let g : at ≡ cond (isClear s) (length body) (reservedFrom (isSeven m) 0 body) =
+        q ∙ ap₂ (λ t u. cond u (length body) (reservedFrom t 0 body)) v w in
         z ∙ text-passes (isSeven m) (isClear s) 3 count body (rw (← g) h)
 
   pub part-not-empty : {r : Bool} → answer ≡ parts → r ≡ fit → r ≡ false → answer ≡ refusal 4 0
-  part-not-empty z q h = z ∙ ap (λ t. choose t header (refusal 4 0)) (sym q ∙ h)
+  part-not-empty z q h = z ∙ ap (λ t. cond t header (refusal 4 0)) (sym q ∙ h)
 
   pub parts-fitting : {r : Bool} → answer ≡ parts → r ≡ fit → r ≡ true → answer ≡ header
-  parts-fitting z q h = z ∙ ap (λ t. choose t header (refusal 4 0)) (sym q ∙ h)
+  parts-fitting z q h = z ∙ ap (λ t. cond t header (refusal 4 0)) (sym q ∙ h)
 
   pub too-many : {r : Bool} → answer ≡ count → r ≡ leb (length head + length (innerSigns s) + length body + 1) 4096 → r ≡ false
       → answer ≡ refusal 5 0
   unfolding countedLength
-  too-many z q h = z ∙ ap (λ t. choose t output (refusal 5 0)) (sym q ∙ h)
+  too-many z q h = z ∙ ap (λ t. cond t output (refusal 5 0)) (sym q ∙ h)
 
   pub few-enough : {r : Bool} → answer ≡ count → r ≡ leb (length head + length (innerSigns s) + length body + 1) 4096 → r ≡ true
       → answer ≡ output
   unfolding countedLength
-  few-enough z q h = z ∙ ap (λ t. choose t output (refusal 5 0)) (sym q ∙ h)
+  few-enough z q h = z ∙ ap (λ t. cond t output (refusal 5 0)) (sym q ∙ h)
 
   pub small-parts : {r : Bool} → r ≡ leb (length head + length (innerSigns s) + length body + 1) 4096 → r ≡ true
       → (length head ≤ 4096) × (length body ≤ 4096)
@@ -169,14 +169,14 @@ module _ (m : Method) (p : Parity) (s : Shape) (e : EndSign) (head body : List �
   output-short {needed} z q h =
       let l = lineOf m p s e head body in
       let g : needed ≡ length l = q ∙ sym (length-line m p s e head body) in
-      z ∙ ap (λ t. choose t (written l) (refusal 6 (length l))) (lt-leb (length l) room (omega arith)) ∙ ap (refusal 6) (sym g)
+      z ∙ ap (λ t. cond t (written l) (refusal 6 (length l))) (lt-leb (length l) room (omega arith)) ∙ ap (refusal 6) (sym g)
 
   pub output-fits : {needed : ℕ} → answer ≡ output → needed ≡ lineLength m s (length head) body → needed ≤ room
       → answer ≡ written (lineOf m p s e head body)
   output-fits {needed} z q h =
       let l = lineOf m p s e head body in
       let g : needed ≡ length l = q ∙ sym (length-line m p s e head body) in
-      z ∙ ap (λ t. choose t (written l) (refusal 6 (length l))) (le-leb (length l) room (omega arith))
+      z ∙ ap (λ t. cond t (written l) (refusal 6 (length l))) (le-leb (length l) room (omega arith))
 
 -- the answer and the output by the rule's answer
 pub refused-by : (out : List ℕ) {a : WriteAnswer} {n v : ℕ} → a ≡ refusal n v → (refused n v ≡ ofWriteAnswer a) × (out ≡ writeOutput a out)

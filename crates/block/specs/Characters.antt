@@ -1,13 +1,12 @@
 -- Characters and their parity (document 01, part 1; 003 par. 1.1). Assumes nothing.
 use Prim.Native.Nat.{ℕ, _+_, _*_, _%_}
-use mathlib.Core.Bool.{Bool, true, false, Bool·beq}
+use mathlib.Core.Bool.{Bool, true, false, Bool·beq, cond}
 use Rattle.bits.specs.Strings.{add, parity}
 use Rattle.bits.specs.Bytes.{lowBits, digit}
 use Rattle.block.specs.declared.Method.{Method}
 use Rattle.block.specs.declared.Method.the-variants as method
 use Rattle.block.specs.declared.Parity.{Parity}
 use Rattle.block.specs.declared.Parity.the-variants.{Even, Odd}
-use Rattle.block.specs.Signs.{choose}
 
 -- methods 1 and 2 carry seven-bit characters, 3 and 4 eight-bit bytes
 abbrev pub isSeven : Method → Bool
@@ -18,7 +17,7 @@ isSeven method.CyclicAlternative = false
 
 -- the character of a byte on the line
 unfoldable pub character : Bool → ℕ → ℕ
-character seven b = choose seven (b % 128) b
+character seven b = cond seven (b % 128) b
 
 -- whether the ones of a byte are to be odd in number: formulas (1) and (2)
 abbrev pub isOdd : Parity → Bool
@@ -34,4 +33,4 @@ withParity p b = b % 128 + 128 * digit (add (isOdd p) (parity (lowBits 7 b)))
 
 -- the byte by which a character is sent
 unfoldable pub sent : Bool → Parity → ℕ → ℕ
-sent seven p b = choose seven (withParity p b) b
+sent seven p b = cond seven (withParity p b) b

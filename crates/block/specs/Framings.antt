@@ -2,7 +2,7 @@
 -- without judging again. Assumes nothing.
 use mathlib.Core.Path.{_≡_}
 use Prim.Native.Nat.{ℕ, _+_, _-_, _≤_, _<_}
-use mathlib.Core.Bool.{Bool, false, not, _&&_}
+use mathlib.Core.Bool.{Bool, false, cond, not, _&&_}
 use mathlib.Core.List.{List, [], _∷_, _++_}
 use lib.Dec.{eqb}
 use lib.ListN.{length, getD}
@@ -20,7 +20,7 @@ use Rattle.block.specs.declared.Tally.{Tally}
 use Rattle.block.specs.declared.Framing.{Framing}
 use Rattle.block.specs.declared.WalkEnd.{WalkEnd}
 use Rattle.block.specs.declared.WalkEnd.the-variants as code
-use Rattle.block.specs.Signs.{SYN, DLE, choose}
+use Rattle.block.specs.Signs.{SYN, DLE}
 use Rattle.block.specs.Characters.{character, parityRight}
 use Rattle.block.specs.Walk.{Stop, ended, refused, Walked}
 use Rattle.block.specs.Marks.{counted, isHeader, isText, sift}
@@ -36,7 +36,7 @@ noTally = record { inner = 0; header = 0; text = 0; counted = 0 }
 
 -- the place of the first inner start; it is never 0
 abbrev pub firstOf : ℕ → ℕ → ℕ
-firstOf inner at = choose (eqb inner 0) at inner
+firstOf inner at = cond (eqb inner 0) at inner
 
 abbrev pub addMark : Mark → ℕ → Tally → Tally
 addMark LeftOut at t = t
@@ -85,11 +85,11 @@ framingAt Header e t after = headerOnly e t after
 framingAt HeaderDle e t after = headerOnly e t after
 framingAt Clear e t after = headerOnly e t after
 framingAt Text e t after =
-    choose (eqb (t .inner) 0)
+    cond (eqb (t .inner) 0)
     (segments shape.Text e t after 1 1 1 (after - 1))
     (segments shape.HeaderText e t after 1 (t .inner) (t .inner + 1) (after - 1))
 framingAt ClearDle e t after =
-    choose (eqb (t .inner) 0)
+    cond (eqb (t .inner) 0)
     (segments shape.ClearText e t after 2 2 2 (after - 2))
     (segments shape.HeaderClearText e t after 1 (t .inner) (t .inner + 2) (after - 2))
 
@@ -127,14 +127,14 @@ ofUnframed (refusal number value) = answers.refused number value
 -- the first place from `at` on whose parity is wrong, or the place after the line
 abbrev pub wrongFrom : Parity → ℕ → List ℕ → ℕ
 wrongFrom p at [] = at
-wrongFrom p at (b ∷ bs) = choose (parityRight p b) (wrongFrom p (at + 1) bs) at
+wrongFrom p at (b ∷ bs) = cond (parityRight p b) (wrongFrom p (at + 1) bs) at
 
 -- ---- bytes by their segments
 
 -- whether a byte of a segment is header or text. In header and plain text SYN is left out; in clear text the first DLE of a pair
 -- is, and a SYN `behind` a DLE
 unfoldable pub isKept : Bool → Bool → Bool → ℕ → Bool
-isKept clear seven behind b = not (choose clear (choose behind (eqb b SYN) (eqb b DLE)) (eqb (character seven b) SYN))
+isKept clear seven behind b = not (cond clear (cond behind (eqb b SYN) (eqb b DLE)) (eqb (character seven b) SYN))
 
 unfoldable pub nextBehind : Bool → Bool → ℕ → Bool
 nextBehind clear behind b = clear && (not behind && eqb b DLE)

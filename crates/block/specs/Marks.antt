@@ -1,6 +1,6 @@
 -- What is read off the marks of a line (document 01, parts 3 and 4). Assumes nothing.
 use Prim.Native.Nat.{ℕ, _+_}
-use mathlib.Core.Bool.{Bool, true, false, not}
+use mathlib.Core.Bool.{Bool, true, false, cond, not}
 use mathlib.Core.List.{List, [], _∷_, map}
 use lib.ListN.{length, drop}
 use Rattle.bits.specs.Differences.{consIf}
@@ -10,7 +10,6 @@ use Rattle.block.specs.declared.Mark.{Mark}
 use Rattle.block.specs.declared.Mark.the-variants.{LeftOut, HeaderByte, TextByte, InnerStart, End}
 use Rattle.block.specs.declared.Field.{Field}
 use Rattle.block.specs.declared.Field.the-variants.{Start, StartDle, Header, HeaderDle, Text, Clear, ClearDle}
-use Rattle.block.specs.Signs.{choose}
 use Rattle.block.specs.Characters.{character}
 
 abbrev pub isCounted : Mark → Bool
@@ -79,7 +78,7 @@ leftOut at (k ∷ ks) (b ∷ line) = leftOutIf (not (isCounted k)) (record { pla
 -- whether there was an inner start
 abbrev pub hasInner : List Mark → Bool
 hasInner [] = false
-hasInner (k ∷ ks) = choose (isInner k) true (hasInner ks)
+hasInner (k ∷ ks) = cond (isInner k) true (hasInner ks)
 
 -- the shape, by the field in which the end sign stands: a header, text, or behind a DLE of clear text. No other has one
 abbrev pub shapeOf : Bool → Field → Shape
@@ -87,6 +86,6 @@ shapeOf inner Start = shape.Header
 shapeOf inner StartDle = shape.Header
 shapeOf inner Header = shape.Header
 shapeOf inner HeaderDle = shape.Header
-shapeOf inner Text = choose inner shape.HeaderText shape.Text
+shapeOf inner Text = cond inner shape.HeaderText shape.Text
 shapeOf inner Clear = shape.Header
-shapeOf inner ClearDle = choose inner shape.HeaderClearText shape.ClearText
+shapeOf inner ClearDle = cond inner shape.HeaderClearText shape.ClearText

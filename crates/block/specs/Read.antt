@@ -1,6 +1,6 @@
 -- Reading a block: questions 11 to 19 in turn (document 01, "Questions before a line is taken"). Assumes nothing.
 use Prim.Native.Nat.{ℕ, _+_}
-use mathlib.Core.Bool.{Bool}
+use mathlib.Core.Bool.{Bool, cond}
 use mathlib.Core.List.{List, [], _∷_, _++_}
 use lib.Dec.{leb, eqb}
 use lib.ListN.{length, drop}
@@ -13,7 +13,6 @@ use Rattle.block.specs.declared.EndSign.{EndSign}
 use Rattle.block.specs.declared.Mark.{Mark}
 use Rattle.block.specs.declared.Field.{Field}
 use Rattle.block.specs.declared.Field.the-variants.{Start}
-use Rattle.block.specs.Signs.{choose}
 use Rattle.block.specs.Characters.{isSeven, parityRight}
 use Rattle.block.specs.Walk.{Stop, ended, refused, Walked, walk}
 use Rattle.block.specs.Marks.{counted, header, text, checkBytes, leftOut, LeftOutByte, hasInner, shapeOf}
@@ -26,7 +25,7 @@ pub data Framed : Type 0 where
 
 -- a question: where its answer is no, the refusal; else what follows
 abbrev pub ask : Bool → ℕ → ℕ → Framed → Framed
-ask holds number value next = choose holds next (unframed number value)
+ask holds number value next = cond holds next (unframed number value)
 
 -- 12 of every byte, from the place `at` on
 abbrev pub askParities : Parity → List ℕ → ℕ → Framed → Framed
@@ -48,7 +47,7 @@ askWalk m line w = askEnd m line (w .marks) (w .stop)
 unfoldable pub framed : Method → Parity → List ℕ → Framed
 framed m p line =
     ask (leb (length line) 16384) 11 0
-    (choose (isSeven m) (askParities p line 0 (askWalk m line (walk (isSeven m) line 0 Start))) (askWalk m line (walk (isSeven m) line 0 Start)))
+    (cond (isSeven m) (askParities p line 0 (askWalk m line (walk (isSeven m) line 0 Start))) (askWalk m line (walk (isSeven m) line 0 Start)))
 
 -- a line has a framing where 11 to 17 are all passed
 pub data Framing : Type 0 where
@@ -92,8 +91,8 @@ outputLength b = length (b .header) + length (b .text)
 abbrev pub askCheck : Method → Parity → List ℕ → ℕ → Framed → ReadAnswer
 askCheck m p line room (unframed number value) = refusal number value
 askCheck m p line room (found ks f e) =
-    choose (same (bitsOf (checkBytes ks line)) (checkOf m p (counted ks line)))
-    (choose (leb (outputLength (partsOf m line ks f e)) room) (taken (partsOf m line ks f e)) (refusal 19 (outputLength (partsOf m line ks f e))))
+    cond (same (bitsOf (checkBytes ks line)) (checkOf m p (counted ks line)))
+    (cond (leb (outputLength (partsOf m line ks f e)) room) (taken (partsOf m line ks f e)) (refusal 19 (outputLength (partsOf m line ks f e))))
     (refusal 18 0)
 
 unfoldable pub readBlock : Method → Parity → List ℕ → ℕ → ReadAnswer

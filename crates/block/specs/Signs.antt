@@ -1,7 +1,7 @@
 -- The seven signs (document 01, part 1; 003 calls them НЗ, НТ, КТ, АР1, СИН, КБ, РИ1). No other definition names their values.
 -- Assumes nothing.
 use Prim.Native.Nat.{ℕ}
-use mathlib.Core.Bool.{Bool, true, false}
+use mathlib.Core.Bool.{Bool, true, false, cond}
 use lib.Dec.{eqb}
 use Rattle.block.specs.declared.EndSign.{EndSign}
 use Rattle.block.specs.declared.EndSign.the-variants.{Etx, Etb, Us}
@@ -31,19 +31,15 @@ US = 0x1F
 pub data Sign : Type 0 where
   soh stx etx dle syn etb us other : Sign
 
-abbrev pub choose : {A : Type 0} → Bool → A → A → A
-choose true a b = a
-choose false a b = b
-
 unfoldable pub signOf : ℕ → Sign
 signOf b =
-    choose (eqb b SOH) soh
-    (choose (eqb b STX) stx
-    (choose (eqb b ETX) etx
-    (choose (eqb b DLE) dle
-    (choose (eqb b SYN) syn
-    (choose (eqb b ETB) etb
-    (choose (eqb b US) us other))))))
+    cond (eqb b SOH) soh
+    (cond (eqb b STX) stx
+    (cond (eqb b ETX) etx
+    (cond (eqb b DLE) dle
+    (cond (eqb b SYN) syn
+    (cond (eqb b ETB) etb
+    (cond (eqb b US) us other))))))
 
 abbrev pub endByte : EndSign → ℕ
 endByte Etx = ETX

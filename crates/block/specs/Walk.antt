@@ -1,7 +1,7 @@
 -- The walk over a line (document 01, part 3, and questions 13 to 15): a mark for every byte up to and with the end sign.
 -- Assumes nothing.
 use Prim.Native.Nat.{ℕ, _+_, _-_}
-use mathlib.Core.Bool.{Bool}
+use mathlib.Core.Bool.{Bool, cond}
 use mathlib.Core.List.{List, [], _∷_}
 use Rattle.block.specs.declared.EndSign.{EndSign}
 use Rattle.block.specs.declared.EndSign.the-variants.{Etx, Etb, Us}
@@ -11,7 +11,7 @@ use Rattle.block.specs.declared.Field.{Field}
 use Rattle.block.specs.declared.Field.the-variants.{Start, StartDle, Header, HeaderDle, Text, Clear, ClearDle}
 use Rattle.block.specs.declared.Judged.{Judged}
 use Rattle.block.specs.declared.Judged.the-variants.{Is, Ends, NoStart, OutOfPlace, DleOutOfPlace}
-use Rattle.block.specs.Signs.{Sign, soh, stx, etx, dle, syn, etb, us, other, signOf, choose}
+use Rattle.block.specs.Signs.{Sign, soh, stx, etx, dle, syn, etb, us, other, signOf}
 use Rattle.block.specs.Characters.{character}
 
 -- the start, left out: SOH, STX or, in methods 3 and 4, DLE STX
@@ -19,7 +19,7 @@ abbrev pub inStart : Bool → Sign → Judged
 inStart seven soh = Is LeftOut Header
 inStart seven stx = Is LeftOut Text
 inStart seven etx = NoStart
-inStart seven dle = choose seven NoStart (Is LeftOut StartDle)
+inStart seven dle = cond seven NoStart (Is LeftOut StartDle)
 inStart seven syn = NoStart
 inStart seven etb = NoStart
 inStart seven us = NoStart
@@ -41,7 +41,7 @@ abbrev pub inHeader : Bool → Sign → Judged
 inHeader seven soh = OutOfPlace
 inHeader seven stx = Is InnerStart Text
 inHeader seven etx = Ends Etx
-inHeader seven dle = choose seven OutOfPlace (Is InnerStart HeaderDle)
+inHeader seven dle = cond seven OutOfPlace (Is InnerStart HeaderDle)
 inHeader seven syn = Is LeftOut Header
 inHeader seven etb = Ends Etb
 inHeader seven us = Ends Us

@@ -1,7 +1,7 @@
 -- Writing a block: questions 1, 4, 2, 3, 5, 6 in turn, and the line (document 01, part 3 and "Questions before a line is taken").
 -- Assumes nothing.
 use Prim.Native.Nat.{ℕ, _+_}
-use mathlib.Core.Bool.{Bool, true, false, not, _&&_, _||_}
+use mathlib.Core.Bool.{Bool, true, false, cond, not, _&&_, _||_}
 use mathlib.Core.List.{List, [], _∷_, _++_, map}
 use lib.Dec.{leb, ltb, eqb}
 use lib.ListN.{length, drop}
@@ -11,7 +11,7 @@ use Rattle.block.specs.declared.Parity.{Parity}
 use Rattle.block.specs.declared.Shape.{Shape}
 use Rattle.block.specs.declared.Shape.the-variants as shape
 use Rattle.block.specs.declared.EndSign.{EndSign}
-use Rattle.block.specs.Signs.{Sign, soh, stx, etx, dle, syn, etb, us, other, signOf, SOH, STX, DLE, endByte, choose}
+use Rattle.block.specs.Signs.{Sign, soh, stx, etx, dle, syn, etb, us, other, signOf, SOH, STX, DLE, endByte}
 use Rattle.block.specs.Characters.{isSeven, sent}
 use Rattle.block.specs.Check.{checkOf}
 
@@ -48,10 +48,10 @@ textStart shape.HeaderClearText = DLE ∷ STX ∷ []
 
 -- where there is a header the start is SOH, and the signs before the text are an inner start, which is counted
 abbrev pub startSigns : Shape → List ℕ
-startSigns s = choose (hasHeader s) (SOH ∷ []) (textStart s)
+startSigns s = cond (hasHeader s) (SOH ∷ []) (textStart s)
 
 abbrev pub innerSigns : Shape → List ℕ
-innerSigns s = choose (hasHeader s) (textStart s) []
+innerSigns s = cond (hasHeader s) (textStart s) []
 
 -- ---- questions
 
@@ -74,7 +74,7 @@ pub data WriteAnswer : Type 0 where
   refusal : ℕ → ℕ → WriteAnswer
 
 abbrev pub ask : Bool → ℕ → ℕ → WriteAnswer → WriteAnswer
-ask holds number value next = choose holds next (refusal number value)
+ask holds number value next = cond holds next (refusal number value)
 
 -- the question `number` of every byte of a part, from the place `at` on
 abbrev pub askFree : Bool → ℕ → List ℕ → ℕ → WriteAnswer → WriteAnswer
@@ -106,7 +106,7 @@ countedLength s head body = length head + length (innerSigns s) + length body + 
 unfoldable pub framedBytes : Method → Parity → Shape → EndSign → List ℕ → List ℕ → List ℕ
 framedBytes m p s e head body =
     map (sent (isSeven m) p)
-    (startSigns s ++ (head ++ (innerSigns s ++ choose (isClear s) (escaped body ++ DLE ∷ endByte e ∷ []) (body ++ endByte e ∷ []))))
+    (startSigns s ++ (head ++ (innerSigns s ++ cond (isClear s) (escaped body ++ DLE ∷ endByte e ∷ []) (body ++ endByte e ∷ []))))
 
 unfoldable pub lineOf : Method → Parity → Shape → EndSign → List ℕ → List ℕ → List ℕ
 lineOf m p s e head body = framedBytes m p s e head body ++ pack (checkOf m p (countedBytes m p s e head body))
@@ -118,7 +118,7 @@ writeBlock m p s e head body room =
     ask (not (isSeven m && isClear s)) 1 0
     (ask ((hasHeader s || isEmpty head) && (hasText s || isEmpty body)) 4 0
     (askFree (isSeven m) 2 head 0
-    (askFree (isSeven m) 3 (choose (isClear s) [] body) 0
+    (askFree (isSeven m) 3 (cond (isClear s) [] body) 0
     (ask (leb (countedLength s head body) 4096) 5 0
     (ask (leb (length (lineOf m p s e head body)) room) 6 (length (lineOf m p s e head body))
     (written (lineOf m p s e head body)))))))

@@ -1,21 +1,21 @@
 -- What the writer's steps compute: the first byte that is not free, the counted bytes before parity, lengths, and stores. Assumes nothing.
 use mathlib.Core.Path.{_≡_}
 use Prim.Native.Nat.{ℕ, _+_}
-use mathlib.Core.Bool.{Bool}
+use mathlib.Core.Bool.{Bool, cond}
 use mathlib.Core.List.{List, [], _∷_, _++_}
 use lib.ListN.{length}
 use lib.Seq.{sets}
 use Rattle.block.specs.declared.Method.{Method}
 use Rattle.block.specs.declared.Shape.{Shape}
 use Rattle.block.specs.declared.EndSign.{EndSign}
-use Rattle.block.specs.Signs.{DLE, endByte, choose}
+use Rattle.block.specs.Signs.{DLE, endByte}
 use Rattle.block.specs.Check.{checkLength}
 use Rattle.block.specs.Write.{isClear, startSigns, innerSigns, isFree, escaped}
 
 -- the first place, counted from `at`, whose byte is not free; the place after the last where every byte is
 unfoldable pub reservedFrom : Bool → ℕ → List ℕ → ℕ
 reservedFrom seven at [] = at
-reservedFrom seven at (b ∷ rest) = choose (isFree seven b) (reservedFrom seven (at + 1) rest) at
+reservedFrom seven at (b ∷ rest) = cond (isFree seven b) (reservedFrom seven (at + 1) rest) at
 
 -- header, inner start, text and end sign, without their parity bits
 unfoldable pub checkedBytes : Shape → EndSign → List ℕ → List ℕ → List ℕ
@@ -23,10 +23,10 @@ checkedBytes s e head body = head ++ (innerSigns s ++ (body ++ endByte e ∷ [])
 
 -- text and end sign as they are sent, without their parity bits
 unfoldable pub bodyBytes : Bool → EndSign → List ℕ → List ℕ
-bodyBytes clear e body = choose clear (escaped body ++ DLE ∷ endByte e ∷ []) (body ++ endByte e ∷ [])
+bodyBytes clear e body = cond clear (escaped body ++ DLE ∷ endByte e ∷ []) (body ++ endByte e ∷ [])
 
 unfoldable pub bodyLength : Bool → List ℕ → ℕ
-bodyLength clear body = choose clear (length (escaped body) + 2) (length body + 1)
+bodyLength clear body = cond clear (length (escaped body) + 2) (length body + 1)
 
 -- the length of a line whose header has `head` bytes
 unfoldable pub lineLength : Method → Shape → ℕ → List ℕ → ℕ

@@ -10,11 +10,10 @@ use crate::signs::STX;
 use crate::signs::SYN;
 use crate::signs::US;
 ghost use mathlib.Core.Path.{_≡_};
-ghost use mathlib.Core.Bool.{false, not, _&&_, _||_};
+ghost use mathlib.Core.Bool.{false, cond, not, _&&_, _||_};
 ghost use Prim.Native.Nat.{_+_};
 ghost use lib.Dec.{leb, eqb};
 ghost use lib.ListN.{length};
-ghost use Rattle.block.specs.Signs as signs;
 ghost use Rattle.block.specs.Write as rule;
 ghost use Rattle.block.specs.Writing.{reservedFrom};
 
@@ -71,7 +70,7 @@ pub fn first_reserved(seven: bool, part: &[u8]) -> usize
 
 // The same in a text: clear text may hold every byte.
 pub fn first_reserved_text(seven: bool, clear: bool, text: &[u8]) -> usize
-    ensures { λ r. ⌜ r ≡ signs.choose clear (length (now (text .entry))) (reservedFrom seven 0 (now (text .entry))) ⌝ }
+    ensures { λ r. ⌜ r ≡ cond clear (length (now (text .entry))) (reservedFrom seven 0 (now (text .entry))) ⌝ }
 {
     if clear {
         text.len()

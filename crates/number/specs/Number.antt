@@ -1,7 +1,7 @@
 -- The number check in the paper's numbers: document 01, part 5, and 003 par. 3.2 to 3.4. Assumes nothing.
 use mathlib.Core.Path.{_≡_}
 use Prim.Native.Nat.{ℕ, _+_, _-_, _/_, _%_, _^_, _<_}
-use mathlib.Core.Bool.{Bool, true, false, _&&_}
+use mathlib.Core.Bool.{Bool, true, false, cond, _&&_}
 use lib.Dec.{eqb, leb, ltb}
 
 -- new, repeat or lost; or the number of the question that was answered no
@@ -26,17 +26,13 @@ pub record Residue (m c b d : ℕ) : Type 0 where
   pub below : d < m
   pub congruent : (b + d) % m ≡ c % m
 
-abbrev pub choose : {A : Type 0} → Bool → A → A → A
-choose true a b = a
-choose false a b = b
-
 -- d = 0: new; d up to half the modulus: repeat; otherwise: lost
 abbrev pub judged : ℕ → ℕ → Verdict
-judged m d = choose (eqb d 0) new (choose (leb d (m / 2)) repeat lost)
+judged m d = cond (eqb d 0) new (cond (leb d (m / 2)) repeat lost)
 
 -- a question: where its answer is no, its number; else what follows
 abbrev pub ask : Bool → ℕ → Verdict → Verdict
-ask holds number next = choose holds next (refused number)
+ask holds number next = cond holds next (refused number)
 
 -- n from 1 to 7? 41. c below the modulus? 42. b below it? 43
 unfoldable pub verdictFor : ℕ → ℕ → ℕ → Verdict
