@@ -1,12 +1,12 @@
 -- The checks of a framed line: the counted bytes folded segment by segment, and a received check compared. Assumes nothing.
 use mathlib.Core.Path.{_≡_, refl, sym, ap, ap₂, _∙_}
-use Prim.Native.Nat.{ℕ, suc, _+_, _-_, _*_, _/_, _%_, _<_}
+use Prim.Native.Nat.{ℕ, suc, _+_, _-_, _*_, _/_, _%_, _^_, _<_}
 use native.Mathlib.Numerals.{add-one}
 use native.Mathlib.Omega.{arith}
 use mathlib.Core.Bool.{Bool, true, false, true≢false}
 use mathlib.Core.List.{List, [], _∷_, _++_}
 use lib.Bits.{bitXor}
-use lib.Dec.{T, eqb}
+use lib.Dec.{T, eqb, lit<}
 use lib.ListN.{length, getD, take, drop, drop-of-length-le}
 use lib.Seq.{drop-cons, slice}
 use borrow.Author.Tests.{eqb-true, eqb-false}
@@ -16,8 +16,11 @@ use Rattle.bits.proofs.Strings.{same-sound, same-self}
 use Rattle.bits.proofs.Bytes.{bitsOf-one, bitsOf-injective, length-lowBits, lowBits-append, lowBits-mod, lowBits-xor, lowBits-zero}
 use Rattle.bits.proofs.Strings.{xor-comm, xor-assoc, xor-zeros, length-xor}
 use Rattle.bits.proofs.Packing.{bitsOf-littleEndian, pack-lowBits}
-use Rattle.cyclic.specs.Check.{method3, method4}
-use Rattle.cyclic.specs.Register.{enterByTable, enterAllByTable}
+use Rattle.cyclic.specs.Check.{Parameters, invertIf, checkBits, method3, method4}
+use Rattle.cyclic.specs.Register.{tableOf, enterByTable, enterAllByTable}
+use Rattle.cyclic.specs.Laws.{OfWidth}
+use Rattle.cyclic.proofs.Table.{entered-by}
+use Rattle.cyclic.proofs.Methods.{check-of}
 use Rattle.block.specs.declared.Method.the-variants as method
 use Rattle.block.specs.declared.Parity.{Parity}
 use Rattle.block.specs.declared.Framing.{Framing}
@@ -67,6 +70,13 @@ start-3 = refl
 pub start-4 : lowBits 16 0 ≡ method4 .start
 unfolding lowBits method4
 start-4 = refl
+
+-- a register that began at a method's start, and the number made of it, hold the check of the bytes that entered
+pub register-check : (m : Parameters) → OfWidth 16 m → (bs : List ℕ) (check : ℕ) {start register : ℕ} {table : List ℕ}
+    → lowBits 16 start ≡ m .start → start < 2 ^ 16 → table ≡ tableOf 16 (m .generator) → register ≡ enterAllByTable table start bs
+    → lowBits 16 check ≡ invertIf (m .inverted) (lowBits 16 register) → lowBits 16 check ≡ checkBits m (bitsOf bs)
+register-check m o bs check {start} {register} began fits t r k =
+    check-of 16 m o (lit< tt) (bitsOf bs) start register check began (entered-by 8 (m .generator) (o .generator .width) start bs t r fits) k
 
 -- ---- a received check against a computed one
 

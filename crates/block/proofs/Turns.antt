@@ -78,8 +78,8 @@ module _ {seven : Bool} {line : List ℕ} {t : Tally} {f : Field} {i : ℕ} (w :
 
   module _ (below : i < length line) {c : ℕ} {j : Judged} (char : c ≡ character seven (getD line i 0)) (judged : j ≡ judge seven f (signOf c)) where
     -- the byte at i, then the walk from i + 1 on
-    turned : {k : Judged} → j ≡ k → walkAnswer t i (onward (walk seven (drop (i + 1) line) (i + 1)) f i k) ≡ walkAnswer noTally 0 (walk seven line 0 Start)
-    turned {k} e =
+    pub turned : (k : Judged) → j ≡ k → walkAnswer t i (onward (walk seven (drop (i + 1) line) (i + 1)) f i k) ≡ walkAnswer noTally 0 (walk seven line 0 Start)
+    turned k e =
         let q : judge seven f (signOf (character seven (getD line i 0))) ≡ k = sym (ap (λ x. judge seven f (signOf x)) char) ∙ sym judged ∙ e in
         sym (ap (λ x. walkAnswer t i (onward (walk seven (drop (i + 1) line) (i + 1)) f i x)) q)
         ∙ ap (λ n. walkAnswer t i (onward (walk seven (drop n line) (i + 1)) f i (judge seven f (signOf (character seven (getD line i 0)))))) (add-one i)
@@ -91,13 +91,9 @@ module _ {seven : Bool} {line : List ℕ} {t : Tally} {f : Field} {i : ℕ} (w :
           within = omega arith;
           size = w .size;
           small = rw b (small-add-mark k t i (w .small));
-          rest = ap (λ x. walkAnswer x (i + 1) (walk seven (drop (i + 1) line) (i + 1) g)) b ∙ turned e;
+          rest = ap (λ x. walkAnswer x (i + 1) (walk seven (drop (i + 1) line) (i + 1) g)) b ∙ turned (Is k g) e;
         }
 
     pub ends : {e : EndSign} {u : Tally} {r : Framing} → j ≡ Ends e → u ≡ addMark End i t → r ≡ framingAt f e u (i + 1)
         → framed r ≡ walkAnswer noTally 0 (walk seven line 0 Start)
-    ends {e} q b x = ap framed (x ∙ ap (λ u. framingAt f e u (i + 1)) b) ∙ turned q
-
-    -- no start, or a byte out of place
-    pub stops : (k : Judged) → j ≡ k → walkAnswer t i (onward (walk seven (drop (i + 1) line) (i + 1)) f i k) ≡ walkAnswer noTally 0 (walk seven line 0 Start)
-    stops k e = turned e
+    ends {e} q b x = ap framed (x ∙ ap (λ u. framingAt f e u (i + 1)) b) ∙ turned (Ends e) q

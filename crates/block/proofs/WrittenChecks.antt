@@ -1,25 +1,22 @@
 -- The checks of a written line: the parts entered or summed one after the other give the check of the counted bytes. Assumes nothing.
 use mathlib.Core.Path.{_≡_, refl, sym, ap, ap₂, _∙_}
-use Prim.Native.Nat.{ℕ, _%_, _^_, _<_}
+use Prim.Native.Nat.{ℕ, _%_}
 use native.Mathlib.Omega.{arith}
 use mathlib.Core.Bool.{true, false}
 use mathlib.Core.List.{List, [], _∷_, _++_, map}
 use lib.Bits.{bitXor}
-use lib.Dec.{lit<}
 use Rattle.bits.specs.Strings.{add, xor, parity}
-use Rattle.bits.specs.Bytes.{lowBits, bitsOf, pack}
+use Rattle.bits.specs.Bytes.{bitsOf, pack}
 use Rattle.bits.proofs.Packing.{pack-lowBits}
-use Rattle.cyclic.specs.Check.{Parameters, invertIf, checkBits, method3, method4}
-use Rattle.cyclic.specs.Register.{tableOf, enterByTable, enterAllByTable}
-use Rattle.cyclic.specs.Laws.{OfWidth}
-use Rattle.cyclic.proofs.Table.{entered-by}
-use Rattle.cyclic.proofs.Methods.{check-of}
+use Rattle.cyclic.specs.Check.{Parameters, checkBits, method3, method4}
+use Rattle.cyclic.specs.Register.{enterByTable, enterAllByTable}
+use Rattle.block.specs.declared.Method.{Method}
 use Rattle.block.specs.declared.Method.the-variants as method
 use Rattle.block.specs.declared.Parity.{Parity}
 use Rattle.block.specs.declared.Shape.{Shape}
 use Rattle.block.specs.declared.EndSign.{EndSign}
 use Rattle.block.specs.Signs.{endByte}
-use Rattle.block.specs.Characters.{isOdd, withParity, sent}
+use Rattle.block.specs.Characters.{isSeven, isOdd, withParity, sent}
 use Rattle.block.specs.Check.{columnSums, matrixCheck, checkOf, xorAll}
 use Rattle.block.specs.Write.{innerSigns, countedBytes}
 use Rattle.block.specs.Writing.{checkedBytes}
@@ -62,26 +59,26 @@ module _ (s : Shape) (e : EndSign) (head body : List ℕ) where
 
 -- ---- methods 3 and 4
 
-pub cyclic-of : (m : Parameters) → OfWidth 16 m → (bs : List ℕ) (check : ℕ) {start register : ℕ} {table sent : List ℕ}
-    → lowBits 16 start ≡ m .start → start < 2 ^ 16
-    → table ≡ tableOf 16 (m .generator) → register ≡ enterAllByTable table start bs
-    → lowBits 16 check ≡ invertIf (m .inverted) (lowBits 16 register)
-    → sent ≡ pack (lowBits 16 check) → sent ≡ pack (checkBits m (bitsOf bs))
-cyclic-of m o bs check {start} {register} began fits t r k s =
-    s
-    ∙ ap pack
-    (check-of 16 m o (lit< tt) (bitsOf bs) start register check began (entered-by 8 (m .generator) (o .generator .width) start bs t r fits) k)
+-- the two bytes of a cyclic check, of a method m that sends eight bits and has the parameters k
+pub cyclic-sent : (m : Method) (k : Parameters) (p : Parity) (s : Shape) (e : EndSign) (head body : List ℕ) → isSeven m ≡ false
+    → ((bs : List ℕ) → checkOf m p bs ≡ checkBits k (bitsOf bs)) → {bytes : List ℕ} → bytes ≡ pack (checkBits k (bitsOf (checkedBytes s e head body)))
+    → map (sent false p) bytes ≡ pack (checkOf m p (countedBytes m p s e head body))
+unfolding countedBytes checkedBytes
+cyclic-sent m k p s e head body eight rule {bytes} h =
+    let bs = checkedBytes s e head body in
+    sent-eight p bytes ∙ h
+    ∙ sym (ap pack (rule (countedBytes m p s e head body) ∙ ap (λ l. checkBits k (bitsOf l)) (ap (λ t. map (sent t p) bs) eight ∙ sent-eight p bs)))
 
-module _ (p : Parity) (s : Shape) (e : EndSign) (head body : List ℕ) where
-  pub check-3-of : {sent2 : List ℕ} → sent2 ≡ pack (checkBits method3 (bitsOf (checkedBytes s e head body)))
-      → map (sent false p) sent2 ≡ pack (checkOf method.Cyclic p (countedBytes method.Cyclic p s e head body))
-  unfolding checkOf countedBytes checkedBytes
-  check-3-of {sent2} h = sent-eight p sent2 ∙ h ∙ sym (ap (λ l. pack (checkBits method3 (bitsOf l))) (sent-eight p (checkedBytes s e head body)))
+module _ (p : Parity) (s : Shape) (e : EndSign) (head body : List ℕ) {bytes : List ℕ} where
+  pub check-3-of : bytes ≡ pack (checkBits method3 (bitsOf (checkedBytes s e head body)))
+      → map (sent false p) bytes ≡ pack (checkOf method.Cyclic p (countedBytes method.Cyclic p s e head body))
+  unfolding checkOf
+  check-3-of = cyclic-sent method.Cyclic method3 p s e head body refl (λ bs. refl)
 
-  pub check-4-of : {sent2 : List ℕ} → sent2 ≡ pack (checkBits method4 (bitsOf (checkedBytes s e head body)))
-      → map (sent false p) sent2 ≡ pack (checkOf method.CyclicAlternative p (countedBytes method.CyclicAlternative p s e head body))
-  unfolding checkOf countedBytes checkedBytes
-  check-4-of {sent2} h = sent-eight p sent2 ∙ h ∙ sym (ap (λ l. pack (checkBits method4 (bitsOf l))) (sent-eight p (checkedBytes s e head body)))
+  pub check-4-of : bytes ≡ pack (checkBits method4 (bitsOf (checkedBytes s e head body)))
+      → map (sent false p) bytes ≡ pack (checkOf method.CyclicAlternative p (countedBytes method.CyclicAlternative p s e head body))
+  unfolding checkOf
+  check-4-of = cyclic-sent method.CyclicAlternative method4 p s e head body refl (λ bs. refl)
 
 -- ---- method 2: the sums do not see the parity bit
 

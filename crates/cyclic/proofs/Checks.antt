@@ -12,8 +12,8 @@ use Rattle.division.specs.Division.{divide, remainder}
 use Rattle.division.proofs.Linear.{length-remainder, remainder-append, remainder-xor}
 use Rattle.division.proofs.Zeros.{divide-zeros, divide-injective, leading, remainder-full}
 use Rattle.division.proofs.Detection.{difference}
-use Rattle.cyclic.specs.Check.{Parameters, formula, invertIf, checkBits}
-use Rattle.cyclic.specs.Laws.{residueIf, ReceiverLaw, OneRemainder, DifferenceDivides}
+use Rattle.cyclic.specs.Check.{Parameters, formula, invertIf, checkBits, checkedBits}
+use Rattle.cyclic.specs.Laws.{residueIf, ReceiverLaw, OneRemainder, CheckedDifference}
 
 -- what inversion adds
 abbrev inversion : Bool → ℕ → List Bool
@@ -144,10 +144,11 @@ one-remainder w m o c d s t n f h =
       λ g. et .1 (sym right ∙ ap (xor u) (sym g) ∙ left),
     )
 
-pub difference-divides : DifferenceDivides
-difference-divides w m o c d s t n f g =
-    let wide = o .generator .width in
-    let q : length (m .start) ≡ length (m .generator) = o .start-length ∙ sym wide in
-    let k : length t ≡ w = ap length g ∙ length-check m q d ∙ wide in
-    let j : length s ≡ w = ap length f ∙ length-check m q c ∙ wide in
-    difference (m .generator) (c ++ s) (d ++ t) (simp (length-append, n, j, k) refl) .0 (one-remainder w m o c d s t n f k .0 g)
+pub difference-divides : CheckedDifference
+unfolding checkedBits
+difference-divides w m o c d n =
+    let q : length (m .start) ≡ length (m .generator) = o .start-length ∙ sym (o .generator .width) in
+    let j : length (checkBits m c) ≡ w = length-check m q c ∙ o .generator .width in
+    let k : length (checkBits m d) ≡ w = length-check m q d ∙ o .generator .width in
+    difference (m .generator) (c ++ checkBits m c) (d ++ checkBits m d) (simp (length-append, n, j, k) refl) .0
+    (one-remainder w m o c d (checkBits m c) (checkBits m d) n refl k .0 refl)

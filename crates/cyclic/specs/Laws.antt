@@ -10,7 +10,7 @@ use Rattle.bits.specs.Bytes.{lowBits, bitsOf}
 use Rattle.division.specs.Division.{remainder, Divides}
 use Rattle.division.specs.Generators.{ibm16, receiver16, receiver32}
 use Rattle.division.specs.Laws.{Generator}
-use Rattle.cyclic.specs.Check.{Parameters, formula, checkBits, method3, method4, method5, method6}
+use Rattle.cyclic.specs.Check.{Parameters, formula, checkBits, checkedBits, method3, method4, method5, method6}
 use Rattle.cyclic.specs.Register.{enter, tableOf, enterAllByTable}
 
 -- parameters of width w
@@ -53,11 +53,11 @@ OneRemainder =
     (w : ℕ) (m : Parameters) → OfWidth w m → (c d s t : List Bool) → length c ≡ length d → s ≡ checkBits m c → length t ≡ w
     → (t ≡ checkBits m d) ↔ (remainder (m .generator) (c ++ s) ≡ remainder (m .generator) (d ++ t))
 
--- so the generator divides the difference of two accepted strings
-abbrev pub DifferenceDivides : Type 0
-DifferenceDivides =
-    (w : ℕ) (m : Parameters) → OfWidth w m → (c d s t : List Bool) → length c ≡ length d → s ≡ checkBits m c → t ≡ checkBits m d
-    → Divides (m .generator) (xor (c ++ s) (d ++ t))
+-- so the generator divides the difference of their checked bits
+abbrev pub CheckedDifference : Type 0
+CheckedDifference =
+    (w : ℕ) (m : Parameters) → OfWidth w m → (c d : List Bool) → length c ≡ length d
+    → Divides (m .generator) (xor (checkedBits m c) (checkedBits m d))
 
 -- ---- the register
 

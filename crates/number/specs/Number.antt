@@ -1,7 +1,7 @@
 -- The number check in the paper's numbers: document 01, part 5, and 003 par. 3.2 to 3.4. Assumes nothing.
 use mathlib.Core.Path.{_≡_}
 use Prim.Native.Nat.{ℕ, _+_, _-_, _/_, _%_, _^_, _<_}
-use mathlib.Core.Bool.{Bool, true, false, cond, _&&_}
+use mathlib.Core.Bool.{Bool, cond, _&&_}
 use lib.Dec.{eqb, leb, ltb}
 
 -- new, repeat or lost; or the number of the question that was answered no

@@ -1,12 +1,10 @@
 -- `check_3` meets its contract: a register that began at the method's start holds its formula. Assumes nothing.
 use mathlib.Core.Bool.{false}
 use lib.Dec.{lit<}
-use Rattle.bits.specs.Bytes.{bitsOf}
 use Rattle.cyclic.specs.Check.{method3}
-use Rattle.cyclic.proofs.Table.{entered-by}
-use Rattle.cyclic.proofs.Methods.{width-3, check-of}
+use Rattle.cyclic.proofs.Methods.{width-3}
 use Rattle.block.specs.Framings.{countedIn}
-use Rattle.block.proofs.CheckLaws.{start-3}
+use Rattle.block.proofs.CheckLaws.{start-3, register-check}
 use borrow.Author.Needs.{needs}
 use Rattle.block.proofs.check.check_3.Statement.{statement}
 use Rattle.block.proofs.check.check_3.Tie as tie
@@ -23,10 +21,8 @@ check-requires c κs = search needs
 returns : tie.Need-returns
 returns c =
     let a = c .before .before .before .before .before .args in
-    let counted = countedIn false (a .f) (a .line .now) in
-    check-of 16 method3 width-3 (lit< tt) (bitsOf counted) 0xffff (c .before .enter-counted .result) (c .check .result) start-3
-    (entered-by 8 (method3 .generator) (width-3 .generator .width) 0xffff counted (c .before .before .before .table .ensures) (c .before .enter-counted .ensures) (lit< tt))
-    (c .check .ensures)
+    register-check method3 width-3 (countedIn false (a .f) (a .line .now)) (c .check .result) start-3 (lit< tt)
+    (c .before .before .before .table .ensures) (c .before .enter-counted .ensures) (c .check .ensures)
 
 pub check-3-spec : {M : Type 1} → statement M
 check-3-spec = tie.close (tie.spec table-requires enter-counted-requires check-requires returns)

@@ -6,7 +6,7 @@ use lib.ListN.{length}
 use Rattle.block.specs.declared.Mark.the-variants.{End}
 use Rattle.block.specs.declared.Judged.the-variants.{NoStart, OutOfPlace, DleOutOfPlace}
 use Rattle.block.specs.Framings.{addMark, refusal}
-use Rattle.block.proofs.Turns.{Walking, begin, small-add-mark, small-widen, on, ends, stops, out, cut-anywhere}
+use Rattle.block.proofs.Turns.{Walking, begin, small-add-mark, small-widen, on, ends, turned, out, cut-anywhere}
 use borrow.Author.Needs.{needs}
 use Rattle.block.proofs.walk.walk.Statement.{statement}
 use Rattle.block.proofs.walk.walk.Tie as tie
@@ -67,7 +67,7 @@ enum-told c = search needs
 returns-2 : tie.Need-returns-2 Inv-loop μ-loop
 returns-2 c =
     let l = c .before .before .before .before .before .before in
-    stops (l .loop .inv) (c .before .before .before .before .before .loop-test .taken) (c .before .before .before .character .ensures) (c .before .before .judge .ensures) NoStart (c .enum-told .given .1)
+    turned (l .loop .inv) (c .before .before .before .before .before .loop-test .taken) (c .before .before .before .character .ensures) (c .before .before .judge .ensures) NoStart (c .enum-told .given .1)
 
 enum-told-2 : tie.Need-enum-told-2 Inv-loop μ-loop
 enum-told-2 c = search needs
@@ -75,7 +75,7 @@ enum-told-2 c = search needs
 returns-3 : tie.Need-returns-3 Inv-loop μ-loop
 returns-3 c =
     let l = c .before .before .before .before .before .before in
-    stops (l .loop .inv) (c .before .before .before .before .before .loop-test .taken) (c .before .before .before .character .ensures) (c .before .before .judge .ensures) OutOfPlace (c .enum-told2 .given .1)
+    turned (l .loop .inv) (c .before .before .before .before .before .loop-test .taken) (c .before .before .before .character .ensures) (c .before .before .judge .ensures) OutOfPlace (c .enum-told2 .given .1)
 
 enum-told-3 : tie.Need-enum-told-3 Inv-loop μ-loop
 enum-told-3 c = search needs
@@ -86,7 +86,7 @@ place-before-requires c κs = search needs
 returns-4 : tie.Need-returns-4 Inv-loop μ-loop
 returns-4 c =
     let l = c .before .before .before .before .before .before .before in
-    ap (λ n. refusal 14 n) (c .place-before .ensures) ∙ stops (l .loop .inv) (c .before .before .before .before .before .before .loop-test .taken) (c .before .before .before .before .character .ensures) (c .before .before .before .judge .ensures) DleOutOfPlace (c .before .enum-told3 .given .1)
+    ap (λ n. refusal 14 n) (c .place-before .ensures) ∙ turned (l .loop .inv) (c .before .before .before .before .before .before .loop-test .taken) (c .before .before .before .before .character .ensures) (c .before .before .before .judge .ensures) DleOutOfPlace (c .before .enum-told3 .given .1)
 
 add-i : tie.Need-add-i Inv-loop μ-loop
 add-i c = omega arith
