@@ -5,6 +5,4 @@ pub mod Marks
 pub mod Check
 pub mod Read
 pub mod Write
-pub mod Writing
 pub mod Answers
-pub mod Framings

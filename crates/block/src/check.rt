@@ -1,28 +1,11 @@
-// The checks over the counted bytes of a framed line.
-use crate::Framing;
+// What the checks of a read and of a written block share: the limit of the count, the length of a check, and sums bit by bit.
 use crate::Method;
-use crate::Parity;
-use crate::segments::enter_part;
-use crate::segments::is_clear;
-use crate::segments::sum_part;
-use crate::segments::sum_slice;
-use crate::signs::with_parity;
 use cyclic::Cyclic3;
-use cyclic::Cyclic4;
-use cyclic::enter_byte16;
-use cyclic::enter_slice16;
-use cyclic::sent16;
 ghost use mathlib.Core.Path.{_≡_};
-ghost use mathlib.Core.Bool.{true, false};
-ghost use Prim.Native.Nat.{_+_};
-ghost use lib.ListN.{length, drop};
-ghost use Rattle.bits.specs.Strings.{same};
-ghost use Rattle.bits.specs.Bytes.{lowBits, bitsOf};
-ghost use Rattle.cyclic.specs.Check.{checkBits, method3, method4};
-ghost use Rattle.cyclic.specs.Register.{enterAllByTable};
-ghost use Rattle.block.specs.Characters.{isSeven};
-ghost use Rattle.block.specs.Check.{checkOf, checkLength, xorAll};
-ghost use Rattle.block.specs.Framings.{countedIn, Ordered};
+ghost use Rattle.block.specs.Check.{checkLength, xorAll};
+
+// Questions 5 and 17: the most bytes that a block counts, in every method what methods 3 and 4 allow.
+pub const COUNTED_LIMIT: usize = Cyclic3::LIMIT;
 
 // How many bytes of check follow the end sign.
 pub fn check_length(m: Method) -> usize
@@ -36,82 +19,15 @@ pub fn check_length(m: Method) -> usize
     }
 }
 
-// The counted bytes of a line, entered into a register.
-fn enter_counted(table: &[u16; 256], start: u16, f: Framing, line: &[u8]) -> u16
-    requires { ⌜ Ordered f (length (now line)) ⌝ }
-    ensures { λ r. ⌜ r ≡ enterAllByTable (now (table .entry)) start (countedIn false f (now (line .entry))) ⌝ }
+// Every byte summed bit by bit.
+pub fn sum_slice(start: u8, part: &[u8]) -> u8
+    ensures { λ r. ⌜ r ≡ xorAll start (now (part .entry)) ⌝ }
 {
-    let head = f.head;
-    let inner = f.inner;
-    let body = f.body;
-    let tail = f.tail;
-    let last = f.after - 1;
-    let shape = f.shape;
-    let header = enter_part(table, start, false, &line[head..inner]);
-    let signs = enter_slice16(table, header, &line[inner..body]);
-    let text = enter_part(table, signs, is_clear(shape), &line[body..tail]);
-    enter_byte16(table, text, line[last])
-}
-
-// The same of methods 1 and 2, summed bit by bit.
-fn sum_counted(f: Framing, line: &[u8]) -> u8
-    requires { ⌜ Ordered f (length (now line)) ⌝ }
-    ensures { λ r. ⌜ r ≡ xorAll 0 (countedIn true f (now (line .entry))) ⌝ }
-{
-    let head = f.head;
-    let inner = f.inner;
-    let body = f.body;
-    let tail = f.tail;
-    let last = f.after - 1;
-    let shape = f.shape;
-    let header = sum_part(0, false, &line[head..inner]);
-    let signs = sum_slice(header, &line[inner..body]);
-    let text = sum_part(signs, is_clear(shape), &line[body..tail]);
-    text ^ line[last]
-}
-
-fn check_3(f: Framing, line: &[u8]) -> u16
-    requires { ⌜ Ordered f (length (now line)) ⌝ }
-    ensures { λ r. ⌜ lowBits 16 r ≡ checkBits method3 (bitsOf (countedIn false f (now (line .entry)))) ⌝ }
-{
-    let table = Cyclic3::table();
-    let register = enter_counted(&table, Cyclic3::START, f, line);
-    Cyclic3 { register }.check()
-}
-
-fn check_4(f: Framing, line: &[u8]) -> u16
-    requires { ⌜ Ordered f (length (now line)) ⌝ }
-    ensures { λ r. ⌜ lowBits 16 r ≡ checkBits method4 (bitsOf (countedIn false f (now (line .entry)))) ⌝ }
-{
-    let table = Cyclic4::table();
-    let register = enter_counted(&table, Cyclic4::START, f, line);
-    Cyclic4 { register }.check()
-}
-
-// Whether two bytes at the place `at` are a check as it is sent.
-fn is_sent(check: u16, line: &[u8], at: usize) -> bool
-    requires { ⌜ length (now line) ≡ at + 2 ⌝ }
-    ensures { λ r. ⌜ r ≡ same (bitsOf (drop at (now (line .entry)))) (lowBits 16 check) ⌝ }
-{
-    let sent = sent16(check);
-    if line[at] == sent[0] {
-        line[at + 1] == sent[1]
-    } else {
-        false
+    let mut sum = start;
+    let mut i = 0;
+    while i < part.len() {
+        sum = sum ^ part[i];
+        i += 1;
     }
-}
-
-// Question 18: whether what follows the end sign is the check of the counted bytes.
-pub fn check_right(m: Method, p: Parity, f: Framing, line: &[u8]) -> bool
-    requires { ⌜ Ordered f (length (now line)) ⌝ }
-    requires { ⌜ length (now line) ≡ f .after + checkLength m ⌝ }
-    ensures { λ r. ⌜ r ≡ same (bitsOf (drop (f .after) (now (line .entry)))) (checkOf m p (countedIn (isSeven m) f (now (line .entry)))) ⌝ }
-{
-    let after = f.after;
-    match m {
-        Method::Parity => true,
-        Method::Matrix => line[after] == with_parity(p, sum_counted(f, line)),
-        Method::Cyclic => is_sent(check_3(f, line), line, after),
-        Method::CyclicAlternative => is_sent(check_4(f, line), line, after),
-    }
+    sum
 }

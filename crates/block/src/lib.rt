@@ -1,6 +1,6 @@
-// Blocks of methods 1 to 4 (003 par. 1.2, 1.3 and 2.1; document 01, parts 1 and 3): `read_block` judges a line and hands out
-// header and text, `write_block` makes a line of them. Both take every input. A refusal carries document 01's number and
-// leaves every byte of the output; a success changes only the bytes that it names.
+// Blocks of methods 1 to 4 (003 par. 1.2, 1.3 and 2.1; document 01, parts 1 and 3): the types of the block calls, and in specs/
+// the rules of reading and writing, by which `read_block` (crate block_reader) and `write_block` (crate block_writer) answer. The
+// functions here are what both calls use; each takes every input, and its contract gives the result by the rules.
 
 // Methods 1 to 4.
 pub enum Method {
@@ -119,48 +119,21 @@ pub enum Judged {
     DleOutOfPlace,
 }
 
-// The marks so far, counted up: the place of the first inner start (0 where there was none), and the numbers of header bytes,
-// text bytes and counted bytes.
-pub struct Tally {
-    pub inner: usize,
-    pub header: usize,
-    pub text: usize,
-    pub counted: usize,
-}
-
-// What the walk hands on: shape and end sign; the places of the header (from `head` up to `inner`), of the inner start (up to
-// `body`) and of the text (up to `tail`); the lengths of header and text without fill; the counted number; and the place after
-// the end sign.
-pub struct Framing {
-    pub shape: Shape,
-    pub end: EndSign,
-    pub head: usize,
-    pub inner: usize,
-    pub body: usize,
-    pub tail: usize,
-    pub header: usize,
-    pub text: usize,
-    pub counted: usize,
-    pub after: usize,
-}
-
-// How a walk ended.
-pub enum WalkEnd {
-    Found(Framing),
-    Refused(ReadRefusal),
-}
-
 mod check;
-mod judge;
-mod length;
-mod parts;
-mod put;
-mod read;
-mod segments;
+mod shapes;
 mod signs;
-mod walk;
-mod write;
-mod written_check;
 
-pub use read::read_block;
-pub use write::write_block;
+pub use check::COUNTED_LIMIT;
+pub use check::check_length;
+pub use check::sum_slice;
+pub use shapes::is_clear;
+pub use signs::DLE;
+pub use signs::ETB;
+pub use signs::ETX;
+pub use signs::SOH;
+pub use signs::STX;
+pub use signs::SYN;
+pub use signs::US;
+pub use signs::is_seven;
+pub use signs::parity_right;
+pub use signs::with_parity;

@@ -1,12 +1,10 @@
-// The seven signs, characters and parity.
-use crate::EndSign;
+// The seven signs, and parity.
 use crate::Method;
 use crate::Parity;
 ghost use mathlib.Core.Path.{_≡_};
 ghost use mathlib.Core.Bool.{Bool};
 ghost use Rattle.bits.specs.Strings.{parity};
 ghost use Rattle.bits.specs.Bytes.{lowBits};
-ghost use Rattle.block.specs.Signs.{endByte};
 ghost use Rattle.block.specs.Characters as rule;
 
 pub const SOH: u8 = 0x01;
@@ -23,16 +21,6 @@ pub const ETB: u8 = 0x17;
 
 pub const US: u8 = 0x1F;
 
-pub fn end_byte(e: EndSign) -> u8
-    ensures { λ r. ⌜ r ≡ endByte e ⌝ }
-{
-    match e {
-        EndSign::Etx => ETX,
-        EndSign::Etb => ETB,
-        EndSign::Us => US,
-    }
-}
-
 // Methods 1 and 2 carry seven-bit characters.
 pub fn is_seven(m: Method) -> bool
     ensures { λ r. ⌜ r ≡ rule.isSeven m ⌝ }
@@ -45,13 +33,7 @@ pub fn is_seven(m: Method) -> bool
     }
 }
 
-pub fn character(seven: bool, b: u8) -> u8
-    ensures { λ r. ⌜ r ≡ rule.character seven b ⌝ }
-{
-    if seven { b % 128 } else { b }
-}
-
-pub fn is_odd(p: Parity) -> bool
+fn is_odd(p: Parity) -> bool
     ensures { λ r. ⌜ r ≡ rule.isOdd p ⌝ }
 {
     match p {
@@ -61,7 +43,7 @@ pub fn is_odd(p: Parity) -> bool
 }
 
 // Whether the ones of a byte are odd in number.
-pub fn odd_ones(b: u8) -> bool
+fn odd_ones(b: u8) -> bool
     ensures { λ r. ⌜ r ≡ parity (lowBits 8 b) ⌝ }
 {
     let four = b ^ (b / 16);
@@ -85,11 +67,4 @@ pub fn with_parity(p: Parity, b: u8) -> u8
     } else {
         low + 128
     }
-}
-
-// The byte by which a character is sent.
-pub fn sent(seven: bool, p: Parity, b: u8) -> u8
-    ensures { λ r. ⌜ r ≡ rule.sent seven p b ⌝ }
-{
-    if seven { with_parity(p, b) } else { b }
 }

@@ -74,7 +74,7 @@ fn run(input: &[u8]) {
         return;
     };
     let mut out = [0u8; 16384];
-    match block::read_block(m, p, &input[2..], &mut out) {
+    match block_reader::read_block(m, p, &input[2..], &mut out) {
         BlockRead::Taken(b) => print_taken(b),
         BlockRead::Refused(r) => print_refused(r),
     }

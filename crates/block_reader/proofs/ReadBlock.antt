@@ -1,0 +1,252 @@
+-- Reading as a whole: a framing that was found, then 18 and 19, and the output. Assumes nothing.
+use mathlib.Core.Path.{_≡_, refl, sym, ap, ap₂, subst, _∙_}
+use Prim.Native.Nat.{ℕ, _+_, _≤_, _<_}
+use native.Mathlib.Nat.{zero-add}
+use native.Mathlib.Omega.{arith}
+use mathlib.Core.Bool.{Bool, true, false, cond}
+use mathlib.Core.List.{List, [], _∷_, _++_, map}
+use lib.Dec.{leb}
+use lib.ListN.{length, drop, length-append, length-map}
+use lib.Seq.{sets, sets-eq}
+use borrow.Author.Tests.{eqb-true, leb-true, le-leb, lt-leb}
+use lib.Dec.{eqb}
+use Rattle.bits.specs.Strings.{same}
+use Rattle.bits.specs.Bytes.{bitsOf}
+use Rattle.bits.specs.Differences.{consIf}
+use Rattle.block.specs.declared.Method.{Method}
+use Rattle.block.specs.declared.Parity.{Parity}
+use Rattle.block.specs.declared.EndSign.{EndSign}
+use Rattle.block.specs.declared.Mark.{Mark}
+use Rattle.block.specs.declared.Field.{Field}
+use Rattle.block.specs.declared.Field.the-variants.{Start}
+use Rattle.block.specs.declared.ReadRefusal.{ReadRefusal}
+use Rattle.block.specs.Signs.{endByte}
+use Rattle.block.specs.Characters.{isSeven, character, parityRight}
+use Rattle.block.specs.Walk.{Stop, ended, refused, Walked, walk}
+use Rattle.block.specs.Marks.{isHeader, isText, sift, counted, checkBytes, hasInner, shapeOf}
+use Rattle.block.specs.Check.{checkOf, checkLength}
+use Rattle.block.specs.Read.{Framed, found, unframed, ask, askParities, askEnd, askWalk, askCheck, ReadAnswer, taken, partsOf, outputLength, readBlock, readOutput}
+use Rattle.block.specs.Read as rule
+use Rattle.block.specs.Answers.{block, shapeNumber, readNumber, readValue, ofReadAnswer}
+use Rattle.block.proofs.Lists.{map-append}
+use Rattle.block_reader.specs.declared.Framing.{Framing}
+use Rattle.block_reader.specs.declared.WalkEnd.{WalkEnd}
+use Rattle.block_reader.specs.declared.WalkEnd.the-variants as code
+use Rattle.block_reader.specs.Framings.{noTally, tallied, framingAt, framed, refusal, ofWalk, framedAnswer, headerIn, textIn, countedIn, Ordered, Segmented}
+use Rattle.block_reader.proofs.FramingLaws.{segmented, Tallied, tally-counts, framing-shape}
+use Rattle.block_reader.proofs.Reading.{Carries, framing-carries}
+
+-- ---- a line that passed 11 to 17
+
+-- a question that was passed
+ask-passed : (b : Bool) (n v : ℕ) (next : Framed) (ks : List Mark) (f : Field) (e : EndSign) → ask b n v next ≡ found ks f e → (b ≡ true) × (next ≡ found ks f e)
+ask-passed true n v next ks f e q = (refl, q)
+ask-passed false n v next ks f e q = absurd (let z : _≡_ {A = ℕ} 0 1 = cc in omega arith)
+
+parities-passed : (p : Parity) (l : List ℕ) (at : ℕ) (next : Framed) (ks : List Mark) (f : Field) (e : EndSign) → askParities p l at next ≡ found ks f e → next ≡ found ks f e
+parities-passed p [] at next ks f e q = q
+parities-passed p (b ∷ l) at next ks f e q =
+    parities-passed p l (at + 1) next ks f e (ask-passed (parityRight p b) 12 at (askParities p l (at + 1) next) ks f e q .1)
+
+either-passed : (b : Bool) (p : Parity) (line : List ℕ) (next : Framed) (ks : List Mark) (f : Field) (e : EndSign)
+    → cond b (askParities p line 0 next) next ≡ found ks f e → next ≡ found ks f e
+either-passed true p line next ks f e q = parities-passed p line 0 next ks f e q
+either-passed false p line next ks f e q = q
+
+pub record Passed (m : Method) (line : List ℕ) (ks : List Mark) (f : Field) (e : EndSign) : Type 0 where
+  pub short : length line ≤ 16384
+  pub walked : walk (isSeven m) line 0 Start ≡ record { marks = ks; stop = ended f e }
+  pub closes : length line ≡ length ks + checkLength m
+  pub few : length (counted ks line) ≤ 4096
+
+end-passed : (m : Method) (line : List ℕ) (w : Walked) (ks : List Mark) (f : Field) (e : EndSign) → askWalk m line w ≡ found ks f e
+    → (w ≡ record { marks = ks; stop = ended f e }) × (length line ≡ length ks + checkLength m) × (length (counted ks line) ≤ 4096)
+end-passed m line w ks f e q = go (w .stop) refl
+  where
+    go : (s : Stop) → w .stop ≡ s → (w ≡ record { marks = ks; stop = ended f e }) × (length line ≡ length ks + checkLength m) × (length (counted ks line) ≤ 4096)
+    go (refused n v) r =
+        let c : unframed n v ≡ found ks f e = sym (ap (askEnd m line (w .marks)) r) ∙ q in
+        absurd (let z : _≡_ {A = ℕ} 0 1 = cc in omega arith)
+    go (ended g d) r =
+        let c = sym (ap (askEnd m line (w .marks)) r) ∙ q in
+        let a = ask-passed (eqb (length line) (length (w .marks) + checkLength m)) 16 (length (w .marks)) _ ks f e c in
+        let b = ask-passed (leb (length (counted (w .marks) line)) 4096) 17 0 (found (w .marks) g d) ks f e (a .1) in
+        let k : found (w .marks) g d ≡ found ks f e = b .1 in
+        let x : w .marks ≡ ks = cc in
+        let y : ended g d ≡ ended f e = cc in (
+          ap₂ (λ (i : List Mark) (j : Stop). record { marks = i; stop = j }) x (r ∙ y),
+          subst (λ (i : List Mark). length line ≡ length i + checkLength m) x (eqb-true _ _ (a .0)),
+          subst (λ (i : List Mark). length (counted i line) ≤ 4096) x (leb-true _ _ (b .0)),
+        )
+
+pub passed : (m : Method) (p : Parity) (line : List ℕ) (ks : List Mark) (f : Field) (e : EndSign) → rule.framed m p line ≡ found ks f e → Passed m line ks f e
+unfolding rule.framed
+passed m p line ks f e q =
+    let a = ask-passed (leb (length line) 16384) 11 0 _ ks f e q in
+    let w = walk (isSeven m) line 0 Start in
+    let b = end-passed m line w ks f e (either-passed (isSeven m) p line (askWalk m line w) ks f e (a .1)) in
+    record { short = leb-true _ _ (a .0); walked = b .0; closes = b .1; few = b .2 }
+
+length-sift : (is : Mark → Bool) (ks : List Mark) (line : List ℕ) → length (sift is ks line) ≤ length line
+length-sift is [] line = omega arith
+length-sift is (k ∷ ks) [] = omega arith
+length-sift is (k ∷ ks) (b ∷ line) = go (is k) (length-sift is ks line)
+  where
+    go : (t : Bool) → length (sift is ks line) ≤ length line → length (consIf t b (sift is ks line)) ≤ length (b ∷ line)
+    go true h = omega arith
+    go false h = omega arith
+
+-- ---- the framing that was found
+
+pub record Found (m : Method) (p : Parity) (line : List ℕ) (r : Framing) : Type 0 where
+  pub marks : List Mark
+  pub field : Field
+  pub end : EndSign
+  pub rules : rule.framed m p line ≡ found marks field end
+  pub framing : r ≡ framingAt field end (tallied noTally 0 marks) (length marks)
+
+pub found-framing : (m : Method) (p : Parity) (line : List ℕ) (r : Framing) → framedAnswer (rule.framed m p line) ≡ framed r → Found m p line r
+found-framing m p line r q = go (rule.framed m p line) refl
+  where
+    go : (x : Framed) → rule.framed m p line ≡ x → Found m p line r
+    go (found ks f e) s =
+        let c : framed (framingAt f e (tallied noTally 0 ks) (length ks)) ≡ framed r = sym (ap framedAnswer s) ∙ q in
+        record { marks = ks; field = f; end = e; rules = s; framing = cc }
+    go (unframed n v) s =
+        let c : refusal n v ≡ framed r = sym (ap framedAnswer s) ∙ q in
+        absurd (let z : _≡_ {A = ℕ} 0 1 = cc in omega arith)
+
+module _ (m : Method) (p : Parity) (line : List ℕ) (r : Framing) (x : Found m p line r) where
+  abbrev ks : List Mark
+  ks = x .marks
+
+  through : Passed m line ks (x .field) (x .end)
+  through = passed m p line ks (x .field) (x .end) (x .rules)
+
+  finds : Segmented (isSeven m) line ks r
+  finds =
+      subst (λ (y : Framing). Segmented (isSeven m) line ks y) (sym (x .framing)) (segmented (isSeven m) line ks (x .field) (x .end) (through .walked))
+
+  carried : Carries (x .end) (tallied noTally 0 ks) (length ks) r
+  carried =
+      subst (λ (y : Framing). Carries (x .end) (tallied noTally 0 ks) (length ks) y) (sym (x .framing))
+      (framing-carries (x .field) (x .end) (tallied noTally 0 ks) (length ks))
+
+  tally : Tallied ks line
+  tally = tally-counts ks line (omega (arith, through .closes))
+
+  pub ordered : Ordered r (length line)
+  ordered = finds .ordered
+
+  pub closed : length line ≡ r .after + checkLength m
+  closed = through .closes ∙ ap (λ n. n + checkLength m) (sym (carried .behind))
+
+  header-length : r .header ≡ length (map (character (isSeven m)) (sift isHeader ks line))
+  header-length = carried .headers ∙ tally .headers ∙ sym (length-map (sift isHeader ks line) (character (isSeven m)))
+
+  text-length : r .text ≡ length (map (character (isSeven m)) (sift isText ks line))
+  text-length = carried .texts ∙ tally .texts ∙ sym (length-map (sift isText ks line) (character (isSeven m)))
+
+  -- the lengths are small enough to be added
+  pub lengths-small : (r .header ≤ 16384) × (r .text ≤ 16384)
+  lengths-small = (
+    omega (arith, carried .headers, tally .headers, length-sift isHeader ks line, through .short),
+    omega (arith, carried .texts, tally .texts, length-sift isText ks line, through .short),
+  )
+
+  pub needed : r .header + r .text ≡ outputLength (partsOf m line ks (x .field) (x .end))
+  needed = ap₂ (λ i j. i + j) header-length text-length
+
+  pub kept-length : r .header + r .text ≡ length (headerIn (isSeven m) r line) + length (textIn (isSeven m) r line)
+  kept-length = ap₂ (λ i j. i + j) (carried .headers ∙ tally .headers ∙ ap length (finds .headers)) (carried .texts ∙ tally .texts ∙ ap length (finds .texts))
+
+  -- ---- 18 and 19
+
+  test : Bool
+  test = same (bitsOf (checkBytes ks line)) (checkOf m p (counted ks line))
+
+  after-check : ℕ → Bool → ReadAnswer
+  after-check room t =
+      cond t
+      (cond (leb (outputLength (partsOf m line ks (x .field) (x .end))) room) (taken (partsOf m line ks (x .field) (x .end)))
+      (rule.refusal 19 (outputLength (partsOf m line ks (x .field) (x .end)))))
+      (rule.refusal 18 0)
+
+  answered : (room : ℕ) → readBlock m p line room ≡ after-check room test
+  unfolding readBlock after-check test
+  answered room = ap (askCheck m p line room) (x .rules)
+
+  module _ {right : Bool} (c : right ≡ same (bitsOf (drop (r .after) line)) (checkOf m p (countedIn (isSeven m) r line))) where
+    checked : right ≡ test
+    unfolding test
+    checked =
+        c ∙ ap₂ (λ n bs. same (bitsOf (drop n line)) (checkOf m p bs)) (carried .behind) (sym (finds .counts))
+
+    pub wrong-check : (room : ℕ) → right ≡ false → readBlock m p line room ≡ rule.refusal 18 0
+    unfolding after-check
+    wrong-check room e = answered room ∙ ap (after-check room) (sym checked ∙ e)
+
+    module _ (room : ℕ) (e : right ≡ true) where
+      right-check : readBlock m p line room
+          ≡ cond (leb (outputLength (partsOf m line ks (x .field) (x .end))) room) (taken (partsOf m line ks (x .field) (x .end)))
+          (rule.refusal 19 (outputLength (partsOf m line ks (x .field) (x .end))))
+      unfolding after-check
+      right-check = answered room ∙ ap (after-check room) (sym checked ∙ e)
+
+      pub output-short : room < r .header + r .text → readBlock m p line room ≡ rule.refusal 19 (r .header + r .text)
+      output-short h =
+          right-check
+          ∙ ap (λ t. cond t (taken (partsOf m line ks (x .field) (x .end))) (rule.refusal 19 (outputLength (partsOf m line ks (x .field) (x .end)))))
+          (lt-leb (outputLength (partsOf m line ks (x .field) (x .end))) room (omega (arith, needed)))
+          ∙ ap (rule.refusal 19) (sym needed)
+
+      pub is-taken : r .header + r .text ≤ room → readBlock m p line room ≡ taken (partsOf m line ks (x .field) (x .end))
+      is-taken h =
+          right-check
+          ∙ ap (λ t. cond t (taken (partsOf m line ks (x .field) (x .end))) (rule.refusal 19 (outputLength (partsOf m line ks (x .field) (x .end)))))
+          (le-leb (outputLength (partsOf m line ks (x .field) (x .end))) room (omega (arith, needed)))
+
+  -- ---- what a taken block answers and puts out
+
+  pub taken-numbers : block (shapeNumber (r .shape)) (endByte (r .end)) (r .header) (r .text) (r .counted)
+      ≡ ofReadAnswer (taken (partsOf m line ks (x .field) (x .end)))
+  taken-numbers =
+      let s : r .shape ≡ shapeOf (hasInner ks) (x .field) =
+      ap (λ (y : Framing). y .shape) (x .framing) ∙ framing-shape (isSeven m) line ks (x .field) (x .end) (through .walked) in
+      ap₂ (λ i j. block (shapeNumber i) (endByte j) (r .header) (r .text) (r .counted)) s (carried .ends)
+      ∙ ap₂ (λ i j. block (shapeNumber (shapeOf (hasInner ks) (x .field))) (endByte (x .end)) i j (r .counted)) header-length text-length
+      ∙ ap (block (shapeNumber (shapeOf (hasInner ks) (x .field))) (endByte (x .end)) (length (map (character (isSeven m)) (sift isHeader ks line))) (length (map (character (isSeven m)) (sift isText ks line)))) (carried .counts ∙ tally .counts)
+
+  pub taken-output : (out : List ℕ) {after : List ℕ} → r .header + r .text ≤ length out
+      → after ≡ sets out 0 (map (character (isSeven m)) (headerIn (isSeven m) r line ++ textIn (isSeven m) r line))
+      → after ≡ readOutput (taken (partsOf m line ks (x .field) (x .end))) out
+  unfolding readOutput
+  taken-output out h q =
+      let g = character (isSeven m) in
+      let both : map g (headerIn (isSeven m) r line ++ textIn (isSeven m) r line) ≡ map g (sift isHeader ks line) ++ map g (sift isText ks line) =
+      ap (map g) (ap₂ _++_ (sym (finds .headers)) (sym (finds .texts))) ∙ map-append g (sift isHeader ks line) (sift isText ks line) in
+      let vs = map g (sift isHeader ks line) ++ map g (sift isText ks line) in
+      let n : length vs ≡ outputLength (partsOf m line ks (x .field) (x .end)) = length-append (map g (sift isHeader ks line)) (map g (sift isText ks line)) in
+      q ∙ ap (sets out 0) both ∙ sets-eq vs out 0 (omega (arith, n, needed)) ∙ ap (λ k. vs ++ drop k out) (zero-add (length vs) ∙ n)
+
+-- ---- no framing
+
+pub no-framing : (m : Method) (p : Parity) (line : List ℕ) (room : ℕ) {w : WalkEnd} {r : ReadRefusal} → ofWalk w ≡ framedAnswer (rule.framed m p line)
+    → w ≡ code.Refused r → readBlock m p line room ≡ rule.refusal (readNumber r) (readValue r)
+unfolding readBlock
+no-framing m p line room {w} {r} e q = go (rule.framed m p line) refl
+  where
+    go : (x : Framed) → rule.framed m p line ≡ x → askCheck m p line room (rule.framed m p line) ≡ rule.refusal (readNumber r) (readValue r)
+    go (found ks f d) s =
+        let c : refusal (readNumber r) (readValue r) ≡ framed (framingAt f d (tallied noTally 0 ks) (length ks)) = sym (ap ofWalk q) ∙ e ∙ ap framedAnswer s in
+        absurd (let z : _≡_ {A = ℕ} 0 1 = cc in omega arith)
+    go (unframed n v) s =
+        let c : refusal (readNumber r) (readValue r) ≡ refusal n v = sym (ap ofWalk q) ∙ e ∙ ap framedAnswer s in
+        let i : n ≡ readNumber r = cc in
+        let j : v ≡ readValue r = cc in
+        ap (askCheck m p line room) s ∙ ap₂ rule.refusal i j
+
+-- a refusal leaves the output
+pub kept-output : {a : ReadAnswer} {n v : ℕ} (out : List ℕ) → a ≡ rule.refusal n v → out ≡ readOutput a out
+unfolding readOutput
+kept-output out q = sym (ap (λ x. readOutput x out) q)

@@ -1,0 +1,64 @@
+-- `hand_out` meets its contract: the header is stored first, the text behind it. Assumes nothing.
+use Rattle.block_reader.proofs.HandedOut.{header-room, text-room, both-handed}
+use borrow.Author.Needs.{needs}
+use Rattle.block_reader.proofs.read.hand_out.Statement.{statement}
+use Rattle.block_reader.proofs.read.hand_out.Tie as tie
+
+sub-copy-part : tie.Need-sub-copy-part
+sub-copy-part c = search needs
+
+part-copy-part-start : tie.Need-part-copy-part-start
+part-copy-part-start c = search needs
+
+part-copy-part-end : tie.Need-part-copy-part-end
+part-copy-part-end c = search needs
+
+copy-part-requires : tie.Need-copy-part-requires
+copy-part-requires c κs =
+    let a = c .before .before .before .before .args in
+    header-room (a .seven) (a .f) (a .line .now) (c .before .before .before .before .pre .0) (a .out .now) (c .before .before .before .before .pre .1)
+
+is-clear-requires : tie.Need-is-clear-requires
+is-clear-requires c κs = search needs
+
+sub-copy-part-2 : tie.Need-sub-copy-part-2
+sub-copy-part-2 c = search needs
+
+part-copy-part-start-2 : tie.Need-part-copy-part-start-2
+part-copy-part-start-2 c = search needs
+
+part-copy-part-end-2 : tie.Need-part-copy-part-end-2
+part-copy-part-end-2 c = search needs
+
+copy-part-requires-2 : tie.Need-copy-part-requires-2
+copy-part-requires-2 c κs =
+    let a = c .before .before .before .before .before .before .before .before .before .before .args in
+    let copied = c .before .before .before .before .before .copy-part in
+    text-room (a .seven) (a .f) (a .line .now) (c .before .before .before .before .before .before .before .before .before .before .pre .0) (a .out .now) (c .before .before .before .before .before .before .before .before .before .before .pre .1) (copied .ensures .0) (copied .ensures .1)
+    (c .before .before .is-clear .ensures)
+
+same-length : tie.Need-same-length
+same-length c = search needs
+
+returns : tie.Need-returns
+returns c =
+    let a = c .before .before .before .before .before .before .before .before .before .before .before .before .before .args in
+    let copied = c .before .before .before .before .before .before .before .before .copy-part in
+    both-handed (a .seven) (a .f) (a .line .now) (c .before .before .before .before .before .before .before .before .before .before .before .before .before .pre .0) (a .out .now) (c .before .before .before .before .before .before .before .before .before .before .before .before .before .pre .1) (copied .ensures .0) (copied .ensures .1)
+    (c .before .before .before .before .before .is-clear .ensures) (c .before .before .copy-part2 .ensures .1)
+
+pub hand-out-spec : {M : Type 1} → statement M
+hand-out-spec =
+    tie.close
+    (tie.spec
+    sub-copy-part
+    part-copy-part-start
+    part-copy-part-end
+    copy-part-requires
+    is-clear-requires
+    sub-copy-part-2
+    part-copy-part-start-2
+    part-copy-part-end-2
+    copy-part-requires-2
+    same-length
+    returns)

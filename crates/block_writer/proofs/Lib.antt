@@ -1,0 +1,5 @@
+pub mod Free
+pub mod Lengths
+pub mod Stores
+pub mod Writing
+pub mod WrittenChecks

@@ -1,0 +1,101 @@
+-- The checks of a written line: the parts entered or summed one after the other give the check of the counted bytes. Assumes nothing.
+use mathlib.Core.Path.{_≡_, refl, sym, ap, ap₂, _∙_}
+use Prim.Native.Nat.{ℕ, _%_}
+use native.Mathlib.Omega.{arith}
+use mathlib.Core.Bool.{true, false}
+use mathlib.Core.List.{List, [], _∷_, _++_, map}
+use lib.Bits.{bitXor}
+use Rattle.bits.specs.Strings.{add, xor, parity}
+use Rattle.bits.specs.Bytes.{bitsOf, pack}
+use Rattle.bits.proofs.Packing.{pack-lowBits}
+use Rattle.cyclic.specs.Check.{Parameters, checkBits, method3, method4}
+use Rattle.cyclic.specs.Register.{enterByTable, enterAllByTable}
+use Rattle.block.specs.declared.Method.{Method}
+use Rattle.block.specs.declared.Method.the-variants as method
+use Rattle.block.specs.declared.Parity.{Parity}
+use Rattle.block.specs.declared.Shape.{Shape}
+use Rattle.block.specs.declared.EndSign.{EndSign}
+use Rattle.block.specs.Signs.{endByte}
+use Rattle.block.specs.Characters.{isSeven, isOdd, withParity, sent}
+use Rattle.block.specs.Check.{columnSums, matrixCheck, checkOf, xorAll}
+use Rattle.block.specs.Write.{innerSigns, countedBytes}
+use Rattle.block.proofs.Sums.{xorAll-append}
+use Rattle.block.proofs.CheckLaws.{enterAll-append, withParity-low, withParity-lt, matrix-character}
+use Rattle.block_writer.specs.Writing.{checkedBytes}
+
+-- ---- eight-bit bytes are sent as they are
+
+pub sent-eight : (p : Parity) (bs : List ℕ) → map (sent false p) bs ≡ bs
+unfolding sent
+sent-eight p [] = refl
+sent-eight p (b ∷ bs) = ap (λ l. b ∷ l) (sent-eight p bs)
+
+-- ---- the parts one after the other
+
+module _ (s : Shape) (e : EndSign) (head body : List ℕ) where
+  pub sum-of : {a b c d r : ℕ} → a ≡ xorAll 0 head → b ≡ xorAll a (innerSigns s) → c ≡ xorAll b body → d ≡ endByte e → r ≡ bitXor c d
+      → r ≡ xorAll 0 (checkedBytes s e head body)
+  unfolding checkedBytes xorAll
+  sum-of ea eb ec ed er =
+      er ∙ ap₂ bitXor (ec ∙ ap (λ z. xorAll z body) (eb ∙ ap (λ z. xorAll z (innerSigns s)) ea)) ed
+      ∙ sym
+      (xorAll-append 0 head (innerSigns s ++ (body ++ endByte e ∷ []))
+      ∙ xorAll-append (xorAll 0 head) (innerSigns s) (body ++ endByte e ∷ [])
+      ∙ xorAll-append (xorAll (xorAll 0 head) (innerSigns s)) body (endByte e ∷ []))
+
+  pub register-of : (table : List ℕ) (start : ℕ) {a b c d r : ℕ} → a ≡ enterAllByTable table start head
+      → b ≡ enterAllByTable table a (innerSigns s)
+      → c ≡ enterAllByTable table b body → d ≡ endByte e → r ≡ enterByTable table c d
+      → r ≡ enterAllByTable table start (checkedBytes s e head body)
+  unfolding checkedBytes enterAllByTable
+  register-of table start ea eb ec ed er =
+      let f = enterAllByTable table in
+      er ∙ ap₂ (enterByTable table) (ec ∙ ap (λ z. f z body) (eb ∙ ap (λ z. f z (innerSigns s)) ea)) ed
+      ∙ sym
+      (enterAll-append table start head (innerSigns s ++ (body ++ endByte e ∷ []))
+      ∙ enterAll-append table (f start head) (innerSigns s) (body ++ endByte e ∷ [])
+      ∙ enterAll-append table (f (f start head) (innerSigns s)) body (endByte e ∷ []))
+
+-- ---- methods 3 and 4
+
+-- the two bytes of a cyclic check, of a method m that sends eight bits and has the parameters k
+pub cyclic-sent : (m : Method) (k : Parameters) (p : Parity) (s : Shape) (e : EndSign) (head body : List ℕ) → isSeven m ≡ false
+    → ((bs : List ℕ) → checkOf m p bs ≡ checkBits k (bitsOf bs)) → {bytes : List ℕ} → bytes ≡ pack (checkBits k (bitsOf (checkedBytes s e head body)))
+    → map (sent false p) bytes ≡ pack (checkOf m p (countedBytes m p s e head body))
+unfolding countedBytes checkedBytes
+cyclic-sent m k p s e head body eight rule {bytes} h =
+    let bs = checkedBytes s e head body in
+    sent-eight p bytes ∙ h
+    ∙ sym (ap pack (rule (countedBytes m p s e head body) ∙ ap (λ l. checkBits k (bitsOf l)) (ap (λ t. map (sent t p) bs) eight ∙ sent-eight p bs)))
+
+module _ (p : Parity) (s : Shape) (e : EndSign) (head body : List ℕ) {bytes : List ℕ} where
+  pub check-3-of : bytes ≡ pack (checkBits method3 (bitsOf (checkedBytes s e head body)))
+      → map (sent false p) bytes ≡ pack (checkOf method.Cyclic p (countedBytes method.Cyclic p s e head body))
+  unfolding checkOf
+  check-3-of = cyclic-sent method.Cyclic method3 p s e head body refl (λ bs. refl)
+
+  pub check-4-of : bytes ≡ pack (checkBits method4 (bitsOf (checkedBytes s e head body)))
+      → map (sent false p) bytes ≡ pack (checkOf method.CyclicAlternative p (countedBytes method.CyclicAlternative p s e head body))
+  unfolding checkOf
+  check-4-of = cyclic-sent method.CyclicAlternative method4 p s e head body refl (λ bs. refl)
+
+-- ---- method 2: the sums do not see the parity bit
+
+columns-sent : (p : Parity) (bs : List ℕ) → columnSums (map (sent true p) bs) ≡ columnSums bs
+unfolding columnSums sent
+columns-sent p [] = refl
+columns-sent p (b ∷ bs) = ap₂ xor (withParity-low p b) (columns-sent p bs)
+
+matrix-packed : (p : Parity) (bs : List ℕ) → withParity p (xorAll 0 bs) ∷ [] ≡ pack (matrixCheck p (map (sent true p) bs))
+unfolding matrixCheck
+matrix-packed p bs =
+    let n = withParity p (xorAll 0 bs) in
+    let small : n ≡ n % 256 = omega (arith, withParity-lt p (xorAll 0 bs)) in
+    ap (λ b. b ∷ []) small ∙ sym (pack-lowBits 1 n)
+    ∙ ap pack (sym (matrix-character p bs) ∙ ap (λ l. l ++ add (isOdd p) (parity l) ∷ []) (sym (columns-sent p bs)))
+
+module _ (p : Parity) (s : Shape) (e : EndSign) (head body : List ℕ) where
+  pub matrix-of : {sum check : ℕ} → sum ≡ xorAll 0 (checkedBytes s e head body) → check ≡ withParity p sum
+      → check ∷ [] ≡ pack (checkOf method.Matrix p (countedBytes method.Matrix p s e head body))
+  unfolding checkOf countedBytes checkedBytes
+  matrix-of es ec = ap (λ b. b ∷ []) (ec ∙ ap (withParity p) es) ∙ matrix-packed p (checkedBytes s e head body)

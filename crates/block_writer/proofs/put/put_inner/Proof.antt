@@ -1,0 +1,74 @@
+-- `put_inner` meets its contract, shape by shape. Assumes nothing.
+use borrow.Author.Needs.{needs}
+use Rattle.block_writer.proofs.Stores.{stored-none}
+use Rattle.block_writer.proofs.put.put_inner.Statement.{statement}
+use Rattle.block_writer.proofs.put.put_inner.Tie as tie
+
+enum-told : tie.Need-enum-told
+enum-told c = search needs
+
+enum-told-2 : tie.Need-enum-told-2
+enum-told-2 c = search needs
+
+enum-told-3 : tie.Need-enum-told-3
+enum-told-3 c = search needs
+
+slice-aggregate-put-characters : tie.Need-slice-aggregate-put-characters
+slice-aggregate-put-characters c = search needs
+
+put-characters-requires : tie.Need-put-characters-requires
+put-characters-requires c κs = rw (c .before .before .enum-told3 .given .1) at (c .before .before .before .before .before .pre)
+
+enum-told-4 : tie.Need-enum-told-4
+enum-told-4 c = search needs
+
+enum-told-5 : tie.Need-enum-told-5
+enum-told-5 c = search needs
+
+slice-aggregate-put-characters-2 : tie.Need-slice-aggregate-put-characters-2
+slice-aggregate-put-characters-2 c = search needs
+
+put-characters-requires-2 : tie.Need-put-characters-requires-2
+put-characters-requires-2 c κs = rw (c .before .before .enum-told5 .given .1) at (c .before .before .before .before .before .pre)
+
+returns : tie.Need-returns
+returns c = rw (c .enum-told .given .1) stored-none
+
+returns-2 : tie.Need-returns-2
+returns-2 c = rw (c .enum-told2 .given .1) stored-none
+
+same-length : tie.Need-same-length
+same-length c = search needs
+
+returns-3 : tie.Need-returns-3
+returns-3 c = rw (c .before .before .before .before .before .enum-told3 .given .1) (c .before .before .put-characters .ensures)
+
+returns-4 : tie.Need-returns-4
+returns-4 c = rw (c .enum-told4 .given .1) stored-none
+
+same-length-2 : tie.Need-same-length-2
+same-length-2 c = search needs
+
+returns-5 : tie.Need-returns-5
+returns-5 c = rw (c .before .before .before .before .before .enum-told5 .given .1) (c .before .before .put-characters2 .ensures)
+
+pub put-inner-spec : {M : Type 1} → statement M
+put-inner-spec =
+    tie.close
+    (tie.spec
+    enum-told
+    enum-told-2
+    enum-told-3
+    slice-aggregate-put-characters
+    put-characters-requires
+    enum-told-4
+    enum-told-5
+    slice-aggregate-put-characters-2
+    put-characters-requires-2
+    returns
+    returns-2
+    same-length
+    returns-3
+    returns-4
+    same-length-2
+    returns-5)

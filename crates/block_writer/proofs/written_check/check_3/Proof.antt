@@ -1,0 +1,36 @@
+-- `check_3` meets its contract: the register that began at the method's start holds its formula. Assumes nothing.
+use mathlib.Core.Path.{ap, _∙_}
+use lib.Dec.{lit<}
+use borrow.Author.Needs.{needs}
+use Rattle.bits.specs.Bytes.{pack}
+use Rattle.cyclic.specs.Check.{method3}
+use Rattle.cyclic.proofs.Methods.{width-3}
+use Rattle.block.proofs.CheckLaws.{start-3, register-check}
+use Rattle.block_writer.specs.Writing.{checkedBytes}
+use Rattle.block_writer.proofs.written_check.check_3.Statement.{statement}
+use Rattle.block_writer.proofs.written_check.check_3.Tie as tie
+
+table-requires : tie.Need-table-requires
+table-requires c κs = search needs
+
+written-register-requires : tie.Need-written-register-requires
+written-register-requires c κs = search needs
+
+check-requires : tie.Need-check-requires
+check-requires c κs = search needs
+
+sent16-requires : tie.Need-sent16-requires
+sent16-requires c κs = search needs
+
+returns : tie.Need-returns
+returns c =
+    let b = c .before .before .before .before .before .before .before .args in
+    c .sent16 .ensures
+    ∙ ap pack
+    (register-check method3 width-3 (checkedBytes (b .shape) (b .end) (b .header .now) (b .text .now)) (c .before .check .result) start-3 (lit< tt)
+    (c .before .before .before .before .table .ensures) (c .before .before .written-register .ensures) (c .before .check .ensures))
+
+pub check-3-spec : {M : Type 1} → statement M
+check-3-spec =
+    tie.close
+    (tie.spec table-requires written-register-requires check-requires sent16-requires returns)

@@ -1,0 +1,88 @@
+// The checks over the parts of a block to be written.
+use crate::put::end_byte;
+use block::DLE;
+use block::EndSign;
+use block::STX;
+use block::Shape;
+use block::sum_slice;
+use cyclic::Cyclic3;
+use cyclic::Cyclic4;
+use cyclic::enter_byte16;
+use cyclic::enter_slice16;
+use cyclic::sent16;
+ghost use mathlib.Core.Path.{_≡_};
+ghost use Rattle.bits.specs.Bytes.{bitsOf, pack};
+ghost use Rattle.cyclic.specs.Check.{checkBits, method3, method4};
+ghost use Rattle.cyclic.specs.Register.{enterAllByTable};
+ghost use Rattle.block.specs.Check.{xorAll};
+ghost use Rattle.block.specs.Write as rule;
+ghost use Rattle.block_writer.specs.Writing.{checkedBytes};
+
+// The inner start enters a register.
+fn inner_register(table: &[u16; 256], start: u16, shape: Shape) -> u16
+    ensures { λ r. ⌜ r ≡ enterAllByTable (now (table .entry)) start (rule.innerSigns shape) ⌝ }
+{
+    match shape {
+        Shape::Header => start,
+        Shape::Text => start,
+        Shape::HeaderText => enter_byte16(table, start, STX),
+        Shape::ClearText => start,
+        Shape::HeaderClearText => enter_byte16(table, enter_byte16(table, start, DLE), STX),
+    }
+}
+
+// The register of methods 3 and 4 after the counted bytes.
+fn written_register(
+    table: &[u16; 256],
+    start: u16,
+    shape: Shape,
+    end: EndSign,
+    header: &[u8],
+    text: &[u8],
+) -> u16
+    ensures { λ r. ⌜ r ≡ enterAllByTable (now (table .entry)) start (checkedBytes shape end (now (header .entry)) (now (text .entry))) ⌝ }
+{
+    let head = enter_slice16(table, start, header);
+    let inner = inner_register(table, head, shape);
+    let body = enter_slice16(table, inner, text);
+    enter_byte16(table, body, end_byte(end))
+}
+
+pub fn check_3(shape: Shape, end: EndSign, header: &[u8], text: &[u8]) -> [u8; 2]
+    ensures { λ r. ⌜ r ≡ pack (checkBits method3 (bitsOf (checkedBytes shape end (now (header .entry)) (now (text .entry))))) ⌝ }
+{
+    let table = Cyclic3::table();
+    let register = written_register(&table, Cyclic3::START, shape, end, header, text);
+    sent16(Cyclic3 { register }.check())
+}
+
+pub fn check_4(shape: Shape, end: EndSign, header: &[u8], text: &[u8]) -> [u8; 2]
+    ensures { λ r. ⌜ r ≡ pack (checkBits method4 (bitsOf (checkedBytes shape end (now (header .entry)) (now (text .entry))))) ⌝ }
+{
+    let table = Cyclic4::table();
+    let register = written_register(&table, Cyclic4::START, shape, end, header, text);
+    sent16(Cyclic4 { register }.check())
+}
+
+// The inner start enters the sums of method 2.
+fn inner_sum(start: u8, shape: Shape) -> u8
+    ensures { λ r. ⌜ r ≡ xorAll start (rule.innerSigns shape) ⌝ }
+{
+    match shape {
+        Shape::Header => start,
+        Shape::Text => start,
+        Shape::HeaderText => start ^ STX,
+        Shape::ClearText => start,
+        Shape::HeaderClearText => (start ^ DLE) ^ STX,
+    }
+}
+
+// The counted bytes summed bit by bit.
+pub fn written_sum(shape: Shape, end: EndSign, header: &[u8], text: &[u8]) -> u8
+    ensures { λ r. ⌜ r ≡ xorAll 0 (checkedBytes shape end (now (header .entry)) (now (text .entry))) ⌝ }
+{
+    let head = sum_slice(0, header);
+    let inner = inner_sum(head, shape);
+    let body = sum_slice(inner, text);
+    body ^ end_byte(end)
+}
