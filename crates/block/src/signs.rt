@@ -2,7 +2,6 @@
 use crate::Method;
 use crate::Parity;
 ghost use mathlib.Core.Path.{_≡_};
-ghost use mathlib.Core.Bool.{Bool};
 ghost use Rattle.bits.specs.Strings.{parity};
 ghost use Rattle.bits.specs.Bytes.{lowBits};
 ghost use Rattle.block.specs.Characters as rule;

@@ -4,7 +4,7 @@ use Prim.Native.Nat.{ℕ, _+_, _≤_, _<_}
 use native.Mathlib.Numerals.{add-one}
 use native.Mathlib.Omega.{arith}
 use mathlib.Core.Bool.{Bool, true, false}
-use mathlib.Core.List.{List, [], _∷_, _++_, map}
+use mathlib.Core.List.{List, [], _++_, map}
 use lib.ListN.{length, getD, drop, drop-of-length-le, length-append, length-map}
 use lib.Seq.{drop-cons, sets}
 use Rattle.bits.specs.Differences.{consIf}

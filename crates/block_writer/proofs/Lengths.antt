@@ -1,5 +1,5 @@
 -- Lengths: of signs, of escaped text and of the line. Assumes nothing.
-use mathlib.Core.Path.{_≡_, refl, sym, ap, ap₂, _∙_}
+use mathlib.Core.Path.{_≡_, ap, ap₂, _∙_}
 use Prim.Native.Nat.{ℕ, suc, _+_, _*_, _≤_, _<_}
 use native.Mathlib.Numerals.{add-one}
 use native.Mathlib.Omega.{arith}
@@ -9,22 +9,15 @@ use lib.Dec.{eqb}
 use lib.ListN.{length, getD, drop, length-append, length-map, drop-of-length-le}
 use lib.Seq.{drop-cons}
 use borrow.Author.Tests.{eq-eqb, ne-eqb}
-use Rattle.bits.specs.Strings.{add, parity}
-use Rattle.bits.specs.Bytes.{bitsOf, bytesFor, pack}
-use Rattle.bits.proofs.Packing.{length-pack}
-use Rattle.cyclic.specs.Check.{Parameters, checkBits, method3, method4}
-use Rattle.cyclic.specs.Laws.{OfWidth}
-use Rattle.cyclic.proofs.Checks.{length-check}
-use Rattle.cyclic.proofs.Methods.{width-3, width-4}
+use Rattle.bits.specs.Bytes.{pack}
 use Rattle.block.specs.declared.Method.{Method}
-use Rattle.block.specs.declared.Method.the-variants as method
 use Rattle.block.specs.declared.Parity.{Parity}
 use Rattle.block.specs.declared.Shape.{Shape}
 use Rattle.block.specs.declared.Shape.the-variants as shape
 use Rattle.block.specs.declared.EndSign.{EndSign}
 use Rattle.block.specs.Signs.{DLE, endByte}
-use Rattle.block.specs.Characters.{isSeven, isOdd, sent}
-use Rattle.block.specs.Check.{columnSums, matrixCheck, checkOf, checkLength}
+use Rattle.block.specs.Characters.{isSeven, sent}
+use Rattle.block.specs.Check.{checkOf, checkLength}
 use Rattle.block.specs.Write.{isClear, startSigns, innerSigns, doubled, escaped, countedBytes, framedBytes, lineOf}
 use Rattle.block.proofs.CheckLaws.{length-check-of}
 use Rattle.block_writer.specs.Writing.{bodyBytes, bodyLength, lineLength}
