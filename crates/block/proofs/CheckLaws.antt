@@ -35,6 +35,10 @@ unfolding lowBits method4
 start-4 = refl
 
 -- bytes that enter a register through a table
+pub enterAll-nil : (table : List ℕ) (a : ℕ) → enterAllByTable table a [] ≡ a
+unfolding enterAllByTable
+enterAll-nil table a = refl
+
 pub enterAll-append : (table : List ℕ) (a : ℕ) (xs ys : List ℕ) → enterAllByTable table a (xs ++ ys) ≡ enterAllByTable table (enterAllByTable table a xs) ys
 unfolding enterAllByTable
 enterAll-append table a [] ys = refl

@@ -1,4 +1,4 @@
--- Bytes summed bit by bit: laws of `xorAll`, the loop that sums a slice, and the check character that the sums give. Assumes nothing.
+-- Bytes summed bit by bit: laws of `xorAll`, and the loop that sums a slice. Assumes nothing.
 use mathlib.Core.Path.{_≡_, refl, sym, ap, _∙_}
 use Prim.Native.Nat.{ℕ, _+_, _≤_, _<_}
 use native.Mathlib.Numerals.{add-one}

@@ -8,7 +8,6 @@ use mathlib.Core.List.{List, [], _++_, map}
 use lib.ListN.{length, getD, drop, drop-of-length-le, length-append, length-map}
 use lib.Seq.{drop-cons, sets}
 use Rattle.bits.specs.Differences.{consIf}
-use Rattle.cyclic.specs.Register.{enterAllByTable}
 use Rattle.block.specs.Characters.{character}
 use Rattle.block.proofs.Lists.{sets-append}
 use Rattle.block_reader.specs.Framings.{isKept, nextBehind, keptBytes}
@@ -58,11 +57,6 @@ module _ (fold : ℕ → List ℕ → ℕ) (fold-nil : (a : ℕ) → fold a [] �
 
     pub whole : length part ≤ i → acc ≡ fold start (keptBytes clear seven false part)
     whole h = sym (ap (fold acc) (kept-none clear seven behind part i h) ∙ fold-nil acc) ∙ w .rest
-
--- bytes that enter a register through a table
-pub enterAll-nil : (table : List ℕ) (a : ℕ) → enterAllByTable table a [] ≡ a
-unfolding enterAllByTable
-enterAll-nil table a = refl
 
 -- ---- a loop that stores the characters of the kept bytes
 

@@ -4,8 +4,8 @@ use native.Mathlib.Omega.{arith}
 use mathlib.Core.Bool.{false}
 use lib.ListN.{length}
 use Rattle.cyclic.specs.Register.{enterAllByTable}
-use Rattle.block.proofs.CheckLaws.{enterAll-append}
-use Rattle.block_reader.proofs.Kept.{Folding, begin, turn, whole, enterAll-nil}
+use Rattle.block.proofs.CheckLaws.{enterAll-nil, enterAll-append}
+use Rattle.block_reader.proofs.Kept.{Folding, begin, turn, whole}
 use borrow.Author.Needs.{needs}
 use Rattle.block_reader.proofs.segments.enter_part.Statement.{statement}
 use Rattle.block_reader.proofs.segments.enter_part.Tie as tie
