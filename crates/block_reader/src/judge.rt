@@ -1,4 +1,4 @@
-// What a character is in its field: one match for each field, by the value of the character.
+// The character of a byte, and what it is in its field: one match for each field, by the value of the character.
 use block::DLE;
 use block::ETB;
 use block::ETX;
