@@ -1,0 +1,5 @@
+pub mod Stuffing
+pub mod Putting
+pub mod Writers
+pub mod Written
+pub mod OneToOne

@@ -1,0 +1,6 @@
+pub mod Stuffing
+pub mod Frame
+pub mod Write
+pub mod Read
+pub mod Answers
+pub mod Steps
