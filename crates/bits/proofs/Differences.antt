@@ -27,6 +27,22 @@ setFrom-nil n [] h = refl
 setFrom-nil n (true ∷ e) h = absurd (omega (arith, ap length h))
 setFrom-nil n (false ∷ e) h = ap (λ z. false ∷ z) (setFrom-nil (suc n) e h)
 
+-- every number is at least the first
+setFrom-from : (n k : ℕ) (e : List Bool) (ns : List ℕ) → setFrom n e ≡ k ∷ ns → n ≤ k
+setFrom-from n k [] ns h = absurd (omega (arith, ap length h))
+setFrom-from n k (true ∷ e) ns h = omega (arith, head-eq-of-cons-eq h)
+setFrom-from n k (false ∷ e) ns h = omega (arith, setFrom-from (suc n) k e ns h)
+
+-- the numbers say which bits are set
+pub setFrom-injective : (n : ℕ) (a b : List Bool) → length a ≡ length b → setFrom n a ≡ setFrom n b → a ≡ b
+setFrom-injective n [] [] l h = refl
+setFrom-injective n [] (y ∷ b) l h = absurd (omega arith)
+setFrom-injective n (x ∷ a) [] l h = absurd (omega arith)
+setFrom-injective n (true ∷ a) (true ∷ b) l h = ap (λ z. true ∷ z) (setFrom-injective (suc n) a b (omega arith) (tail-eq-of-cons-eq h))
+setFrom-injective n (true ∷ a) (false ∷ b) l h = absurd (omega (arith, setFrom-from (suc n) n b (setFrom (suc n) a) (sym h)))
+setFrom-injective n (false ∷ a) (true ∷ b) l h = absurd (omega (arith, setFrom-from (suc n) n a (setFrom (suc n) b) h))
+setFrom-injective n (false ∷ a) (false ∷ b) l h = ap (λ z. false ∷ z) (setFrom-injective (suc n) a b (omega arith) h)
+
 -- ---- differing
 
 pub length-differing : (a b : List Bool) → length (differing a b) ≡ weight (xor a b)

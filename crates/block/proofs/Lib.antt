@@ -5,3 +5,4 @@ pub mod Lists
 pub mod NoSign
 pub mod OneToOne
 pub mod Sums
+pub mod Passed

@@ -8,8 +8,7 @@ use mathlib.Core.List.{List, [], _∷_, _++_, map}
 use lib.Dec.{leb}
 use lib.ListN.{length, drop, length-append, length-map}
 use lib.Seq.{sets, sets-eq}
-use borrow.Author.Tests.{eqb-true, leb-true, le-leb, lt-leb}
-use lib.Dec.{eqb}
+use borrow.Author.Tests.{le-leb, lt-leb}
 use Rattle.bits.specs.Strings.{same}
 use Rattle.bits.specs.Bytes.{bitsOf}
 use Rattle.bits.specs.Differences.{consIf}
@@ -18,74 +17,22 @@ use Rattle.block.specs.declared.Parity.{Parity}
 use Rattle.block.specs.declared.EndSign.{EndSign}
 use Rattle.block.specs.declared.Mark.{Mark}
 use Rattle.block.specs.declared.Field.{Field}
-use Rattle.block.specs.declared.Field.the-variants.{Start}
 use Rattle.block.specs.declared.ReadRefusal.{ReadRefusal}
 use Rattle.block.specs.Signs.{endByte}
-use Rattle.block.specs.Characters.{isSeven, character, parityRight}
-use Rattle.block.specs.Walk.{Stop, ended, refused, Walked, walk}
+use Rattle.block.specs.Characters.{isSeven, character}
 use Rattle.block.specs.Marks.{isHeader, isText, sift, counted, checkBytes, hasInner, shapeOf}
 use Rattle.block.specs.Check.{checkOf, checkLength}
-use Rattle.block.specs.Read.{Framed, found, unframed, ask, askParities, askEnd, askWalk, askCheck, ReadAnswer, taken, partsOf, outputLength, readBlock, readOutput}
+use Rattle.block.specs.Read.{Framed, found, unframed, askCheck, ReadAnswer, taken, partsOf, outputLength, readBlock, readOutput}
 use Rattle.block.specs.Read as rule
 use Rattle.block.specs.Answers.{block, shapeNumber, readNumber, readValue, ofReadAnswer}
 use Rattle.block.proofs.Lists.{map-append}
+use Rattle.block.proofs.Passed.{Passed, passed}
 use Rattle.block_reader.specs.declared.Framing.{Framing}
 use Rattle.block_reader.specs.declared.WalkEnd.{WalkEnd}
 use Rattle.block_reader.specs.declared.WalkEnd.the-variants as code
 use Rattle.block_reader.specs.Framings.{noTally, tallied, framingAt, framed, refusal, ofWalk, framedAnswer, headerIn, textIn, countedIn, Ordered, Segmented}
 use Rattle.block_reader.proofs.FramingLaws.{segmented, Tallied, tally-counts, framing-shape}
 use Rattle.block_reader.proofs.Reading.{Carries, framing-carries}
-
--- ---- a line that passed 11 to 17
-
--- a question that was passed
-ask-passed : (b : Bool) (n v : ℕ) (next : Framed) (ks : List Mark) (f : Field) (e : EndSign) → ask b n v next ≡ found ks f e → (b ≡ true) × (next ≡ found ks f e)
-ask-passed true n v next ks f e q = (refl, q)
-ask-passed false n v next ks f e q = absurd (let z : _≡_ {A = ℕ} 0 1 = cc in omega arith)
-
-parities-passed : (p : Parity) (l : List ℕ) (at : ℕ) (next : Framed) (ks : List Mark) (f : Field) (e : EndSign) → askParities p l at next ≡ found ks f e → next ≡ found ks f e
-parities-passed p [] at next ks f e q = q
-parities-passed p (b ∷ l) at next ks f e q =
-    parities-passed p l (at + 1) next ks f e (ask-passed (parityRight p b) 12 at (askParities p l (at + 1) next) ks f e q .1)
-
-either-passed : (b : Bool) (p : Parity) (line : List ℕ) (next : Framed) (ks : List Mark) (f : Field) (e : EndSign)
-    → cond b (askParities p line 0 next) next ≡ found ks f e → next ≡ found ks f e
-either-passed true p line next ks f e q = parities-passed p line 0 next ks f e q
-either-passed false p line next ks f e q = q
-
-pub record Passed (m : Method) (line : List ℕ) (ks : List Mark) (f : Field) (e : EndSign) : Type 0 where
-  pub short : length line ≤ 16384
-  pub walked : walk (isSeven m) line 0 Start ≡ record { marks = ks; stop = ended f e }
-  pub closes : length line ≡ length ks + checkLength m
-  pub few : length (counted ks line) ≤ 4096
-
-end-passed : (m : Method) (line : List ℕ) (w : Walked) (ks : List Mark) (f : Field) (e : EndSign) → askWalk m line w ≡ found ks f e
-    → (w ≡ record { marks = ks; stop = ended f e }) × (length line ≡ length ks + checkLength m) × (length (counted ks line) ≤ 4096)
-end-passed m line w ks f e q = go (w .stop) refl
-  where
-    go : (s : Stop) → w .stop ≡ s → (w ≡ record { marks = ks; stop = ended f e }) × (length line ≡ length ks + checkLength m) × (length (counted ks line) ≤ 4096)
-    go (refused n v) r =
-        let c : unframed n v ≡ found ks f e = sym (ap (askEnd m line (w .marks)) r) ∙ q in
-        absurd (let z : _≡_ {A = ℕ} 0 1 = cc in omega arith)
-    go (ended g d) r =
-        let c = sym (ap (askEnd m line (w .marks)) r) ∙ q in
-        let a = ask-passed (eqb (length line) (length (w .marks) + checkLength m)) 16 (length (w .marks)) _ ks f e c in
-        let b = ask-passed (leb (length (counted (w .marks) line)) 4096) 17 0 (found (w .marks) g d) ks f e (a .1) in
-        let k : found (w .marks) g d ≡ found ks f e = b .1 in
-        let x : w .marks ≡ ks = cc in
-        let y : ended g d ≡ ended f e = cc in (
-          ap₂ (λ (i : List Mark) (j : Stop). record { marks = i; stop = j }) x (r ∙ y),
-          subst (λ (i : List Mark). length line ≡ length i + checkLength m) x (eqb-true _ _ (a .0)),
-          subst (λ (i : List Mark). length (counted i line) ≤ 4096) x (leb-true _ _ (b .0)),
-        )
-
-pub passed : (m : Method) (p : Parity) (line : List ℕ) (ks : List Mark) (f : Field) (e : EndSign) → rule.framed m p line ≡ found ks f e → Passed m line ks f e
-unfolding rule.framed
-passed m p line ks f e q =
-    let a = ask-passed (leb (length line) 16384) 11 0 _ ks f e q in
-    let w = walk (isSeven m) line 0 Start in
-    let b = end-passed m line w ks f e (either-passed (isSeven m) p line (askWalk m line w) ks f e (a .1)) in
-    record { short = leb-true _ _ (a .0); walked = b .0; closes = b .1; few = b .2 }
 
 length-sift : (is : Mark → Bool) (ks : List Mark) (line : List ℕ) → length (sift is ks line) ≤ length line
 length-sift is [] line = omega arith
@@ -120,7 +67,7 @@ module _ (m : Method) (p : Parity) (line : List ℕ) (r : Framing) (x : Found m 
   abbrev ks : List Mark
   ks = x .marks
 
-  through : Passed m line ks (x .field) (x .end)
+  through : Passed m p line ks (x .field) (x .end)
   through = passed m p line ks (x .field) (x .end) (x .rules)
 
   finds : Segmented (isSeven m) line ks r

@@ -72,7 +72,7 @@ OrderAbove p limit = (d : ℕ) → 0 < d → d ≤ limit → PowerIsOne p d → 
 -- where that holds of every distance within the string, at least three bits
 abbrev pub DetectsTwo : Type 0
 DetectsTwo =
-    (p a b : List Bool) → constantTerm p ≡ true → 0 < length p → OrderAbove p (length a) → Undetected p a b → weight (xor a b) ≤ 2 → a ≡ b
+    (p a b : List Bool) → constantTerm p ≡ true → 0 < length p → OrderAbove p (length a - 1) → Undetected p a b → weight (xor a b) ≤ 2 → a ≡ b
 
 -- ---- the generators of the standard
 

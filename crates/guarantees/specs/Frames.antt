@@ -1,0 +1,49 @@
+-- Frames as lines (document 01, part 4): a frame is its told bits. Assumes nothing.
+use Prim.Native.Nat.{ℕ, _≤_}
+use mathlib.Core.Bool.{Bool}
+use mathlib.Core.List.{List, [], _++_}
+use lib.ListN.{length}
+use Rattle.bits.specs.Strings.{zeros, invert}
+use Rattle.cyclic.specs.Check.{Parameters}
+use Rattle.frame.specs.Stuffing.{behindFive}
+use Rattle.frame.specs.Read.{Framed, found, unframed, framed, between, Framing, framingOf, ReadAnswer, taken, refusal, readBits}
+use Rattle.guarantees.specs.Lines.{Lines}
+
+-- the number of an answer; 0 where the frame is taken
+abbrev pub numberOf : ReadAnswer → ℕ
+numberOf (taken content) = 0
+numberOf (refusal number value) = number
+
+-- none of 31 to 37, however long the output; of the told bits 31 is passed
+abbrev pub Accepted : Parameters → List Bool → Type 0
+Accepted m frame = (room : ℕ) → 31 ≤ numberOf (readBits m frame room) → numberOf (readBits m frame room) ≤ 37 → ⊥
+
+-- the bits of the content, then of the check
+abbrev pub checkedIn : Framed → List Bool
+checkedIn (found s) = s
+checkedIn (unframed number value) = []
+
+unfoldable pub checkedBits : Parameters → List Bool → List Bool
+checkedBits m frame = checkedIn (framed m frame)
+
+-- all between the flags but the inserted zeros
+abbrev pub isCheckedIn : List Bool → Framed → List Bool
+isCheckedIn frame (found s) = zeros 8 ++ (invert (behindFive 0 (between frame)) ++ zeros 8)
+isCheckedIn frame (unframed number value) = []
+
+unfoldable pub isChecked : Parameters → List Bool → List Bool
+isChecked m frame = isCheckedIn frame (framed m frame)
+
+abbrev pub frames : Parameters → Lines
+frames m =
+    record {
+      Line = List Bool;
+      IsLine = λ frame. Unit;
+      size = length;
+      bits = λ frame. frame;
+      Accepted = Accepted m;
+      Framing = Framing;
+      framingOf = framingOf m;
+      isChecked = isChecked m;
+      checkedBits = checkedBits m;
+    }

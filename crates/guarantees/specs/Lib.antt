@@ -1,0 +1,7 @@
+pub mod Lines
+pub mod Blocks
+pub mod Frames
+pub mod Third
+pub mod Fill
+pub mod Second
+pub mod Rows
