@@ -87,9 +87,14 @@ pub enum WalkEnd {
     Refused(ReadRefusal),
 }
 
+mod check;
 mod count;
+mod data;
 mod limit;
 mod put;
+mod read;
+mod walk;
 mod write;
 
+pub use read::read_frame;
 pub use write::write_frame;

@@ -1,0 +1,92 @@
+-- Bits at their places: a place of a row of bytes is a place of one of them, and a byte that is built bit by bit is the value of
+-- its bits. Assumes nothing.
+use mathlib.Core.Path.{_≡_, refl, sym, ap, _∙_, subst}
+use mathlib.Core.Bool.{Bool, true, false, true≢false}
+use mathlib.Core.List.{List, [], _∷_, _++_}
+use Prim.Native.Nat.{ℕ, zero, suc, _+_, _*_, _/_, _%_, _^_, _<_, _≤_}
+use native.Mathlib.Omega.{arith}
+use native.Mathlib.Nat.{one-mul, mul-comm, add-comm, div-one, div-div-eq-div-mul, pow-suc, mod-eq-of-lt}
+use native.Mathlib.Numerals.{add-one}
+use borrow.Author.Tests.{eqb-true, eqb-false}
+use lib.Dec.{T, eqb}
+use lib.Pow.{pow-lt}
+use lib.Bits.{bitAnd, bitOr, and-mask, or-shifted-r}
+use lib.ListN.{length, take, drop, getD, length-drop, List·getD-append}
+use lib.Seq.{getD-append-add, take-suc, length-take-le}
+use Rattle.bits.specs.Strings.{same}
+use Rattle.bits.specs.Bytes.{lowBits, bitsOf, digit, value}
+use Rattle.bits.proofs.Strings.{same-sound, same-self}
+use Rattle.bits.proofs.Bytes.{length-bitsOf, length-lowBits, lowBits-value, value-lowBits, value-lt, value-snoc}
+
+-- ---- the bit at a place
+
+lowBits-at : (w n p : ℕ) → p < w → getD (lowBits w n) p false ≡ eqb (n / 2 ^ p % 2) 1
+unfolding lowBits
+lowBits-at zero n p h = absurd (omega arith)
+lowBits-at (suc w) n zero h = ap (λ v. eqb (v % 2) 1) (sym (div-one n))
+lowBits-at (suc w) n (suc p) h =
+    lowBits-at w (n / 2) p (omega arith)
+    ∙ ap (λ v. eqb (v % 2) 1) (div-div-eq-div-mul n 2 (2 ^ p) ∙ ap (λ k. n / k) (mul-comm 2 (2 ^ p) ∙ sym (pow-suc 2 p)))
+
+bitsOf-at : (bs : List ℕ) (k p : ℕ) → p < 8 → k < length bs → getD (bitsOf bs) (8 * k + p) false ≡ eqb (getD bs k 0 / 2 ^ p % 2) 1
+unfolding bitsOf
+bitsOf-at [] k p h l = absurd (omega arith)
+bitsOf-at (b ∷ bs) zero p h l =
+    let e : 8 * 0 + p ≡ p = omega arith in
+    let q : p < length (lowBits 8 b) = omega (arith, length-lowBits 8 b) in
+    ap (λ i. getD (lowBits 8 b ++ bitsOf bs) i false) e ∙ List·getD-append (lowBits 8 b) (bitsOf bs) false p q ∙ lowBits-at 8 b p h
+bitsOf-at (b ∷ bs) (suc k) p h l =
+    let e : 8 * suc k + p ≡ length (lowBits 8 b) + (8 * k + p) = omega (arith, length-lowBits 8 b) in
+    ap (λ i. getD (lowBits 8 b ++ bitsOf bs) i false) e
+    ∙ getD-append-add (lowBits 8 b) (bitsOf bs) (8 * k + p) false ∙ bitsOf-at bs k p h (omega arith)
+
+-- as code reads it: the byte shifted down, its low bit kept
+pub bit-read : (bs : List ℕ) (at : ℕ) → at < 8 * length bs → eqb (bitAnd (getD bs (at / 8) 0 / 2 ^ (at % 8)) 1) 1 ≡ getD (bitsOf bs) at false
+bit-read bs at h =
+    let e : 8 * (at / 8) + at % 8 ≡ at = omega arith in
+    ap (λ v. eqb v 1) (and-mask (getD bs (at / 8) 0 / 2 ^ (at % 8)) 1)
+    ∙ sym (bitsOf-at bs (at / 8) (at % 8) (omega arith) (omega arith)) ∙ ap (λ i. getD (bitsOf bs) i false) e
+
+pub eight-from : (bs : List ℕ) (at : ℕ) → at + 8 ≤ 8 * length bs → 8 ≤ length (drop at (bitsOf bs))
+eight-from bs at h = omega (arith, length-drop at (bitsOf bs), length-bitsOf bs)
+
+-- ---- one bit more
+
+-- as code sets it: a one shifted up, into a byte that is smaller
+pub bit-set : (byte k : ℕ) → byte < 2 ^ k → k < 8 → bitOr byte (1 * 2 ^ k % 256) ≡ byte + 1 * 2 ^ k
+bit-set byte k small h =
+    let e : 1 * 2 ^ k % 256 ≡ 1 * 2 ^ k = rw one-mul (mod-eq-of-lt (pow-lt h)) in
+    ap (bitOr byte) e ∙ or-shifted-r 1 k byte small ∙ add-comm (1 * 2 ^ k) byte
+
+module _ (s : List Bool) (k : ℕ) (h : k < length s) where
+  take-length : length (take k s) ≡ k
+  take-length = length-take-le k s (omega arith)
+
+  pub value-more : value (take (k + 1) s) ≡ value (take k s) + digit (getD s k false) * 2 ^ k
+  value-more =
+      ap (λ n. value (take n s)) (add-one k) ∙ ap value (take-suc s k false h) ∙ value-snoc (take k s) (getD s k false)
+      ∙ ap (λ n. value (take k s) + digit (getD s k false) * 2 ^ n) take-length
+
+  pub value-below : value (take k s) < 2 ^ k
+  value-below = subst (λ (n : ℕ). value (take k s) < 2 ^ n) take-length (value-lt (take k s))
+
+-- ---- numbers compared as bits
+
+true-T : (b : Bool) → b ≡ true → T b
+true-T true e = tt
+true-T false e = absurd (true≢false (sym e))
+
+-- two numbers are equal exactly where two strings are
+pub equal-as-bits : (m n : ℕ) (a b : List Bool) → (m ≡ n → a ≡ b) → (a ≡ b → m ≡ n) → eqb m n ≡ same a b
+equal-as-bits m n a b f g = go (eqb m n) refl (same a b) refl
+  where
+    go : (t : Bool) → eqb m n ≡ t → (u : Bool) → same a b ≡ u → eqb m n ≡ same a b
+    go true p u q = p ∙ sym (ap (same a) (sym (f (eqb-true m n p))) ∙ same-self a)
+    go false p true q = absurd (eqb-false m n p (g (same-sound a b (true-T (same a b) q))))
+    go false p false q = p ∙ sym q
+
+-- a string's value is a number exactly where the string is the number's bits
+pub equal-value : (w n : ℕ) (s : List Bool) → length s ≡ w → n < 2 ^ w → eqb (value s) n ≡ same s (lowBits w n)
+equal-value w n s l h =
+    let e : lowBits w (value s) ≡ s = ap (λ k. lowBits k (value s)) (sym l) ∙ lowBits-value s in
+    equal-as-bits (value s) n s (lowBits w n) (λ q. sym e ∙ ap (lowBits w) q) (λ q. ap value q ∙ value-lowBits w n ∙ mod-eq-of-lt h)

@@ -1,0 +1,45 @@
+// Reading a frame: questions 31 to 38, then the content handed out.
+use crate::FrameMethod;
+use crate::FrameRead;
+use crate::ReadRefusal;
+use crate::WalkEnd;
+use crate::check::check_right;
+use crate::data::hand_out;
+use crate::limit::check_width;
+use crate::walk::find_framing;
+ghost use mathlib.Core.Path.{_≡_};
+ghost use lib.ListN.{length};
+ghost use Rattle.frame.specs.Frame.{parametersOf};
+ghost use Rattle.frame.specs.Read.{readFrame, readOutput};
+ghost use Rattle.frame.specs.Answers.{ofRead, ofReadAnswer};
+ghost use Rattle.frame.specs.Steps.{ofWalk, ofUnframed};
+
+// The refusal of a walk that found no framing.
+fn unframed(w: WalkEnd) -> FrameRead
+    ensures { λ r. ⌜ ofRead r ≡ ofUnframed (ofWalk w) ⌝ }
+{
+    match w {
+        WalkEnd::Refused(r) => FrameRead::Refused(r),
+        WalkEnd::Found(_) => FrameRead::Refused(ReadRefusal::BitsNotLent),
+    }
+}
+
+// Document 01, part 4: reads the frame that is the first `bits` bits of the bytes lent.
+pub fn read_frame(method: FrameMethod, bits: usize, lent: &[u8], out: &mut [u8]) -> FrameRead
+    ensures { λ r. ⌜ (ofRead r ≡ ofReadAnswer (readFrame (parametersOf method) bits (now (lent .entry)) (length (now (out .entry))))) × (now (out .exit) ≡ readOutput (readFrame (parametersOf method) bits (now (lent .entry)) (length (now (out .entry)))) (now (out .entry))) ⌝ }
+{
+    let walked = find_framing(method, bits, lent);
+    let WalkEnd::Found(f) = walked else {
+        return unframed(walked);
+    };
+    let end = f.end;
+    if !check_right(method, lent, end, f.count / 8) {
+        return FrameRead::Refused(ReadRefusal::WrongCheck);
+    }
+    let needed = (f.count - check_width(method)) / 8;
+    if needed > out.len() {
+        return FrameRead::Refused(ReadRefusal::OutputShort(needed));
+    }
+    hand_out(lent, end, needed, &mut *out);
+    FrameRead::Taken(needed)
+}
