@@ -1,4 +1,3 @@
-pub mod Accepted
 pub mod Characters
 pub mod CheckLaws
 pub mod Lists

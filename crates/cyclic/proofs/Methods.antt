@@ -13,7 +13,7 @@ use Rattle.division.specs.Generators.{ccitt16, ibm16}
 use Rattle.division.proofs.Generators.{ccitt16-generator, ibm16-generator, ieee32-generator, receiver-16, receiver-32}
 use Rattle.cyclic.specs.Check.{Parameters, formula, invertIf, checkBits, method3, method4, method5, method6, Constants}
 use Rattle.cyclic.specs.Register.{enter}
-use Rattle.cyclic.specs.Laws.{OfWidth, Receives, Receivers, Method4Formula, Row11, Row12}
+use Rattle.cyclic.specs.Laws.{OfWidth, Receives, Receivers, Method4Formula}
 use Rattle.cyclic.proofs.Enter.{enter-is-formula}
 use Rattle.cyclic.proofs.Checks.{receiver}
 
@@ -84,13 +84,3 @@ ones-16 = refl
 pub ones-32 : lowBits 32 0xffffffff ≡ ones 32
 unfolding lowBits
 ones-32 = refl
-
--- ---- rows 11 and 12 of document 01
-
-pub row-11 : Row11
-unfolding method5 checkBits formula ccitt16 remainder divide bitsOf lowBits
-row-11 = refl
-
-pub row-12 : Row12
-unfolding method5 checkBits formula ccitt16 remainder divide bitsOf lowBits
-row-12 = refl

@@ -71,11 +71,3 @@ abbrev pub TableEnters : Type 0
 TableEnters =
     (j : ℕ) (p : List Bool) → length p ≡ 8 + j → (register : ℕ) (bytes : List ℕ) → register < 2 ^ (8 + j)
     → lowBits (8 + j) (enterAllByTable (tableOf (8 + j) p) register bytes) ≡ enter p (lowBits (8 + j) register) (bitsOf bytes)
-
--- ---- rows 11 and 12 of document 01: the checks of FF and of FF FF under method 5
-
-abbrev pub Row11 : Type 0
-Row11 = checkBits method5 (bitsOf (0xff ∷ [])) ≡ bitsOf (0x00 ∷ 0xff ∷ [])
-
-abbrev pub Row12 : Type 0
-Row12 = checkBits method5 (bitsOf (0xff ∷ 0xff ∷ [])) ≡ bitsOf (0xff ∷ 0xff ∷ [])

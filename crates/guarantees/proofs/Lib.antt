@@ -12,7 +12,7 @@ pub mod FrameBridge
 pub mod CyclicFrames
 pub mod Third
 pub mod Sharp
-pub mod ExistFrames
+pub mod AcceptedFrames
 pub mod WrittenQuestions
 pub mod WrittenWalk
 pub mod WrittenLine

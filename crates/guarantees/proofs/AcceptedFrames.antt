@@ -11,10 +11,10 @@ use Rattle.frame.specs.Read.{framed}
 use Rattle.guarantees.specs.Frames.{Accepted}
 use Rattle.guarantees.proofs.FrameFraming.{accepted}
 
-pub accepted-5 : Accepted method5 (frameOf method5 (bitsOf (0xFF ∷ [])))
+pub frame-16-accepted : Accepted method5 (frameOf method5 (bitsOf (0xFF ∷ [])))
 unfolding lowBits bitsOf checkBits checkedBits formula method5 divide remainder ccitt16 isFifth runOn stuff unstuff flag enclose frameOf framed
-accepted-5 = accepted method5 (frameOf method5 (bitsOf (0xFF ∷ []))) {s = checkedBits method5 (bitsOf (0xFF ∷ []))} refl refl
+frame-16-accepted = accepted method5 (frameOf method5 (bitsOf (0xFF ∷ []))) {s = checkedBits method5 (bitsOf (0xFF ∷ []))} refl refl
 
-pub accepted-6 : Accepted method6 (frameOf method6 (bitsOf (0xFF ∷ [])))
+pub frame-32-accepted : Accepted method6 (frameOf method6 (bitsOf (0xFF ∷ [])))
 unfolding lowBits bitsOf checkBits checkedBits formula method6 divide remainder ieee32 isFifth runOn stuff unstuff flag enclose frameOf framed
-accepted-6 = accepted method6 (frameOf method6 (bitsOf (0xFF ∷ []))) {s = checkedBits method6 (bitsOf (0xFF ∷ []))} refl refl
+frame-32-accepted = accepted method6 (frameOf method6 (bitsOf (0xFF ∷ []))) {s = checkedBits method6 (bitsOf (0xFF ∷ []))} refl refl
