@@ -6,10 +6,10 @@ use mathlib.Core.Bool.{Bool}
 use mathlib.Core.List.{List, _++_}
 use lib.ListN.{length, length-append, length-replicate}
 use Rattle.bits.specs.Strings.{xor, zeros, ones}
-use Rattle.bits.specs.Bytes.{lowBits, bitsOf}
+use Rattle.bits.specs.Bytes.{lowBits}
 use Rattle.bits.proofs.Strings.{xor-comm, xor-zeros, zeros-append}
-use Rattle.division.specs.Division.{divide, remainder}
-use Rattle.division.specs.Generators.{ccitt16, ibm16}
+use Rattle.division.specs.Division.{remainder}
+use Rattle.division.specs.Generators.{ibm16}
 use Rattle.division.proofs.Generators.{ccitt16-generator, ibm16-generator, ieee32-generator, receiver-16, receiver-32}
 use Rattle.cyclic.specs.Check.{Parameters, formula, invertIf, checkBits, method3, method4, method5, method6, Constants}
 use Rattle.cyclic.specs.Register.{enter}
