@@ -3,10 +3,10 @@ use mathlib.Core.Path.{refl}
 use Rattle.cyclic.specs.Check.{method5, method6}
 use Rattle.cyclic.proofs.Methods.{width-5, width-6}
 use Rattle.guarantees.specs.Second.{SecondProperty}
-use Rattle.guarantees.proofs.WrittenBlock.{written-reads-back}
-use Rattle.guarantees.proofs.ReadBlocks.{read-writes-back}
-use Rattle.guarantees.proofs.TakenBlock.{accepted-is-taken}
-use Rattle.guarantees.proofs.FrameRoundTrip.{frame-reads-back, frame-writes-back}
+use Rattle.guarantees.proofs.Written.Block.{written-reads-back}
+use Rattle.guarantees.proofs.Taken.Block.{read-writes-back}
+use Rattle.guarantees.proofs.Taken.Questions.{accepted-is-taken}
+use Rattle.guarantees.proofs.Frames.RoundTrip.{frame-reads-back, frame-writes-back}
 
 pub second-property : SecondProperty
 second-property =

@@ -24,7 +24,7 @@ use Rattle.block.specs.Check.{columnSums, matrixCheck, checkOf}
 use Rattle.block.specs.Read.{found, framed, framingOf}
 use Rattle.guarantees.specs.Lines.{TwoAccepted, distance, differingChecked}
 use Rattle.guarantees.specs.Blocks.{Accepted, checkedBits, blocks}
-use Rattle.guarantees.proofs.BlockFraming.{CheckRight, accepted-right}
+use Rattle.guarantees.proofs.Blocks.Framing.{CheckRight, accepted-right}
 
 -- ---- lines of plain text
 

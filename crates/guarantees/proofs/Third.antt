@@ -11,13 +11,13 @@ use Rattle.block.specs.declared.Method.the-variants as method
 use Rattle.guarantees.specs.Lines.{Lines}
 use Rattle.guarantees.specs.Frames.{frames}
 use Rattle.guarantees.specs.Third.{AnyMethod, method-1, method-2, method-3, method-4, method-5, method-6, linesOf, Has16Bits, ThirdProperty}
-use Rattle.guarantees.proofs.Masks.{Bridge, differ-where-checked, equal-where-checked}
-use Rattle.guarantees.proofs.CyclicLines.{CyclicPairs, no-burst, never-odd, accepted-where-apart, at-least-three}
-use Rattle.guarantees.proofs.FrameBridge.{frame-bridge}
-use Rattle.guarantees.proofs.CyclicFrames.{cyclic-frames}
-use Rattle.guarantees.proofs.BlockBridge.{block-bridge}
-use Rattle.guarantees.proofs.CyclicBlocks.{cyclic-pairs-3, cyclic-pairs-4, any-parity}
-use Rattle.guarantees.proofs.Parities.{distance-parity, distance-matrix, burst-matrix}
+use Rattle.guarantees.proofs.Lines.Masks.{Bridge, differ-where-checked, equal-where-checked}
+use Rattle.guarantees.proofs.Lines.Cyclic.{CyclicPairs, no-burst, never-odd, accepted-where-apart, at-least-three}
+use Rattle.guarantees.proofs.Frames.Bridge.{frame-bridge}
+use Rattle.guarantees.proofs.Frames.Cyclic.{cyclic-frames}
+use Rattle.guarantees.proofs.Blocks.Bridge.{block-bridge}
+use Rattle.guarantees.proofs.Blocks.Cyclic.{cyclic-pairs-3, cyclic-pairs-4, any-parity}
+use Rattle.guarantees.proofs.Blocks.Parities.{distance-parity, distance-matrix, burst-matrix}
 
 bridge : (m : AnyMethod) → Bridge (linesOf m)
 bridge (method-1 p) = block-bridge method.Parity p

@@ -24,7 +24,7 @@ use Rattle.block.specs.Read.{found, framed, framingOf}
 use Rattle.guarantees.specs.Lines.{SameFraming, TwoAccepted, distance, differingChecked}
 use Rattle.guarantees.specs.Blocks.{Accepted, checkedBits, blocks}
 use Rattle.guarantees.specs.Third.{method-3}
-use Rattle.guarantees.proofs.BlockFraming.{CheckRight, accepted-right}
+use Rattle.guarantees.proofs.Blocks.Framing.{CheckRight, accepted-right}
 use Rattle.guarantees.proofs.Third.{third-property}
 
 -- STX, 4,095 bytes of text, ETX and the check; the first byte of the text and the first of the check are open

@@ -8,7 +8,7 @@ use lib.Dec.{eqb}
 use borrow.Author.Tests.{eqb-true, eqb-false, ne-eqb, eq-eqb}
 use Rattle.bits.specs.Strings.{invert}
 use Rattle.frame.specs.Stuffing.{isFifth, runOn, zeroIf, stuff, Unstuffed, clean, missing, ahead, unstuffBit, onesAfter, unstuff, behindFive}
-use Rattle.guarantees.proofs.Masks.{select}
+use Rattle.guarantees.proofs.Lines.Masks.{select}
 
 pub missing-clean : {p : ℕ} {s : List Bool} → missing p ≡ clean s → ⊥
 missing-clean {p = p} {s = s} e = let z : _≡_ {A = ℕ} 0 1 = cc in omega arith

@@ -24,12 +24,12 @@ use Rattle.block.specs.Read.{Framed, found, framed, askParities, askEnd, Parts,
 use Rattle.block.specs.Write.{innerSigns, countedBytes, countedLength, lineOf}
 use Rattle.block.proofs.CheckLaws.{check-short, length-check-of}
 use Rattle.guarantees.specs.Second.{partsWritten, WrittenReadsBack}
-use Rattle.guarantees.proofs.WrittenQuestions.{PassesWriting, passed}
-use Rattle.guarantees.proofs.WrittenWalk.{Marked, marksOf, charactersOf, walk-is}
-use Rattle.guarantees.proofs.WrittenLine.{markedLine, framed-bytes, endField, line-walks}
-use Rattle.guarantees.proofs.WrittenParts.{pick, header-picked, text-picked, counted-picked, shape-back, sift-sent, length-sent, check-bytes, characters-back}
-use Rattle.guarantees.proofs.WrittenParity.{written-parities}
-use Rattle.guarantees.proofs.WrittenLengths.{check-back, marks-short, length-counted}
+use Rattle.guarantees.proofs.Written.Questions.{PassesWriting, passed}
+use Rattle.guarantees.proofs.Written.Walk.{Marked, marksOf, charactersOf, walk-is}
+use Rattle.guarantees.proofs.Written.Line.{markedLine, framed-bytes, endField, line-walks}
+use Rattle.guarantees.proofs.Written.Parts.{pick, header-picked, text-picked, counted-picked, shape-back, sift-sent, length-sent, check-bytes, characters-back}
+use Rattle.guarantees.proofs.Written.Parities.{written-parities}
+use Rattle.guarantees.proofs.Written.Lengths.{check-back, marks-short, length-counted}
 
 -- ---- a line that passes 11 to 18
 

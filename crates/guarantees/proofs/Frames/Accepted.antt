@@ -9,7 +9,7 @@ use Rattle.frame.specs.Stuffing.{isFifth, runOn, stuff, unstuff}
 use Rattle.frame.specs.Frame.{flag, enclose, frameOf}
 use Rattle.frame.specs.Read.{framed}
 use Rattle.guarantees.specs.Frames.{Accepted}
-use Rattle.guarantees.proofs.FrameFraming.{accepted}
+use Rattle.guarantees.proofs.Frames.Framing.{accepted}
 
 pub frame-16-accepted : Accepted method5 (frameOf method5 (bitsOf (0xFF ∷ [])))
 unfolding lowBits bitsOf checkBits checkedBits formula method5 divide remainder ccitt16 isFifth runOn stuff unstuff flag enclose frameOf framed

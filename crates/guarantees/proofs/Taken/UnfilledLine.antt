@@ -20,10 +20,10 @@ use Rattle.block.specs.Characters.{character, sent}
 use Rattle.block.specs.Walk.{ended, Walked, judge, inHeader, inStart, onward, walk}
 use Rattle.block.specs.Marks.{shapeOf}
 use Rattle.guarantees.specs.Fill.{isFill, firstSign, unfilledBehind, unfilled}
-use Rattle.guarantees.proofs.ReadCharacters.{Resent, OfSign, of-sign, other-free}
-use Rattle.guarantees.proofs.Unfilled.{Unfilled, kept}
-use Rattle.guarantees.proofs.UnfilledText.{not-ended, textBytes, carries, end-carries, TextLeft, plain-text, clear-text, text-left}
-use Rattle.guarantees.proofs.UnfilledBlock.{plain-carried, BlockLeft, header-end, fill-byte, header-byte, soh-before, text-block}
+use Rattle.guarantees.proofs.Taken.Characters.{Resent, OfSign, of-sign, other-free}
+use Rattle.guarantees.proofs.Taken.Unfilled.{Unfilled, kept}
+use Rattle.guarantees.proofs.Taken.UnfilledText.{not-ended, textBytes, carries, end-carries, TextLeft, plain-text, clear-text, text-left}
+use Rattle.guarantees.proofs.Taken.UnfilledBlock.{plain-carried, BlockLeft, header-end, fill-byte, header-byte, soh-before, text-block}
 
 module _ (seven : Bool) (p : Parity) where
   -- ---- behind a DLE: STX and clear text

@@ -16,10 +16,10 @@ use Rattle.block.specs.Marks.{counted, checkBytes}
 use Rattle.block.specs.Check.{checkOf, checkLength}
 use Rattle.block.specs.Read.{Framed, found, unframed, framed, askCheck, readBlock}
 use Rattle.guarantees.specs.Blocks.{checkedBits, blocks}
-use Rattle.guarantees.proofs.Masks.{length-checked}
-use Rattle.guarantees.proofs.CyclicLines.{CyclicPairs}
-use Rattle.guarantees.proofs.BlockFraming.{Found, one-framing, accepted-right}
-use Rattle.guarantees.proofs.BlockBridge.{checked-bits, all-passed, block-bridge}
+use Rattle.guarantees.proofs.Lines.Masks.{length-checked}
+use Rattle.guarantees.proofs.Lines.Cyclic.{CyclicPairs}
+use Rattle.guarantees.proofs.Blocks.Framing.{Found, one-framing, accepted-right}
+use Rattle.guarantees.proofs.Blocks.Bridge.{checked-bits, all-passed, block-bridge}
 
 -- ---- one law over both methods
 

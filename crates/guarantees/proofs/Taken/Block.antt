@@ -24,11 +24,11 @@ use Rattle.block.specs.Write.{WriteAnswer, written, ask, askFree, isClear, coun
 use Rattle.guarantees.specs.Fill.{unfilled, withoutFill}
 use Rattle.block.proofs.Passed.{Passed, passed}
 use Rattle.guarantees.specs.Second.{ReadWritesBack}
-use Rattle.guarantees.proofs.BlockFraming.{CheckRight}
-use Rattle.guarantees.proofs.ReadCharacters.{resent, Free}
-use Rattle.guarantees.proofs.UnfilledBlock.{Allowed, BlockLeft}
-use Rattle.guarantees.proofs.UnfilledLine.{block-left}
-use Rattle.guarantees.proofs.TakenBlock.{taken-passed}
+use Rattle.guarantees.proofs.Blocks.Framing.{CheckRight}
+use Rattle.guarantees.proofs.Taken.Characters.{resent, Free}
+use Rattle.guarantees.proofs.Taken.UnfilledBlock.{Allowed, BlockLeft}
+use Rattle.guarantees.proofs.Taken.UnfilledLine.{block-left}
+use Rattle.guarantees.proofs.Taken.Questions.{taken-passed}
 
 -- ---- the writer's questions
 

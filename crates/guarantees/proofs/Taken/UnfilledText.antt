@@ -19,8 +19,8 @@ use Rattle.block.specs.Characters.{character, sent}
 use Rattle.block.specs.Walk.{ended, refused, Walked, judge, cut, onward, walk}
 use Rattle.block.specs.Write.{escaped, isFree}
 use Rattle.guarantees.specs.Fill.{isSyn, isFill, firstSign, unfilledBehind, unfilled}
-use Rattle.guarantees.proofs.ReadCharacters.{Resent, OfSign, of-sign, Free, other-free}
-use Rattle.guarantees.proofs.Unfilled.{Carries, Unfilled, unmarked, marked, sent-before, kept}
+use Rattle.guarantees.proofs.Taken.Characters.{Resent, OfSign, of-sign, Free, other-free}
+use Rattle.guarantees.proofs.Taken.Unfilled.{Carries, Unfilled, unmarked, marked, sent-before, kept}
 
 pub not-ended : {n v : ℕ} {f : Field} {e : EndSign} → refused n v ≡ ended f e → ⊥
 not-ended h = let z : _≡_ {A = ℕ} 0 1 = cc in omega arith

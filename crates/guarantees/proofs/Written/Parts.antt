@@ -21,8 +21,8 @@ use Rattle.block.specs.Signs.{DLE, endByte}
 use Rattle.block.specs.Characters.{character, sent}
 use Rattle.block.specs.Marks.{isCounted, isHeader, isText, isInner, sift, checkBytes, hasInner, shapeOf}
 use Rattle.block.specs.Write.{isClear, startSigns, innerSigns, isEmpty}
-use Rattle.guarantees.proofs.WrittenWalk.{Marked, marksOf, charactersOf, marked, markedTwice, markedClear, Walks, end, step}
-use Rattle.guarantees.proofs.WrittenLine.{markedText, markedLine, endField}
+use Rattle.guarantees.proofs.Written.Walk.{Marked, marksOf, charactersOf, marked, markedTwice, markedClear, Walks, end, step}
+use Rattle.guarantees.proofs.Written.Line.{markedText, markedLine, endField}
 
 -- ---- the characters whose mark a test takes
 

@@ -15,7 +15,7 @@ use Rattle.block.specs.Marks.{counted, checkBytes}
 use Rattle.block.specs.Check.{checkOf}
 use Rattle.block.specs.Read.{Framed, found, unframed, framed, Parts, partsOf, outputLength, ReadAnswer, taken, refusal, askCheck, readBlock}
 use Rattle.guarantees.specs.Second.{AcceptedIsTaken}
-use Rattle.guarantees.proofs.BlockFraming.{CheckRight, Found, accepted-found, accepted-right}
+use Rattle.guarantees.proofs.Blocks.Framing.{CheckRight, Found, accepted-found, accepted-right}
 
 pub record Taken (m : Method) (p : Parity) (line : List ℕ) (b : Parts) : Type 0 where
   pub framing : Found m p line

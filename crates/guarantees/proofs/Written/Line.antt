@@ -22,8 +22,8 @@ use Rattle.block.specs.Signs.{etx, etb, us, signOf, SOH, STX, DLE, endByte}
 use Rattle.block.specs.Characters.{isSeven, sent}
 use Rattle.block.specs.Walk.{judge}
 use Rattle.block.specs.Write.{isClear, startSigns, innerSigns, isEmpty, escaped, doubled, framedBytes}
-use Rattle.guarantees.proofs.WrittenQuestions.{PassesWriting}
-use Rattle.guarantees.proofs.WrittenWalk.{Marked, sentAs, charactersOf, marked, markedTwice, markedClear, low-back, Walks, end, step, free-walks, clear-walks}
+use Rattle.guarantees.proofs.Written.Questions.{PassesWriting}
+use Rattle.guarantees.proofs.Written.Walk.{Marked, sentAs, charactersOf, marked, markedTwice, markedClear, low-back, Walks, end, step, free-walks, clear-walks}
 
 -- text and end sign; in clear text the DLE before the end sign is left out
 abbrev pub markedText : Bool → EndSign → List ℕ → List Marked

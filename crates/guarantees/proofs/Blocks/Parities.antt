@@ -21,11 +21,11 @@ use Rattle.block.proofs.CheckLaws.{length-sums}
 use Rattle.block.proofs.Passed.{ParitiesRight}
 use Rattle.guarantees.specs.Lines.{TwoAccepted, distance, AtLeast, NoBurst}
 use Rattle.guarantees.specs.Blocks.{Accepted, checkedBits, blocks}
-use Rattle.guarantees.proofs.Masks.{differ-where-checked, equal-where-checked, length-checked}
-use Rattle.guarantees.proofs.BlockFraming.{Found, accepted-right, OneFraming, one-framing}
-use Rattle.guarantees.proofs.BlockBridge.{checked-bits, all-passed, block-bridge}
-use Rattle.guarantees.proofs.ColumnSums.{one-more-byte}
-use Rattle.guarantees.proofs.Columns.{EqualParities, equal-parities, distanceOf, at-least-two, at-least-four, at-most-two}
+use Rattle.guarantees.proofs.Lines.Masks.{differ-where-checked, equal-where-checked, length-checked}
+use Rattle.guarantees.proofs.Blocks.Framing.{Found, accepted-right, OneFraming, one-framing}
+use Rattle.guarantees.proofs.Blocks.Bridge.{checked-bits, all-passed, block-bridge}
+use Rattle.guarantees.proofs.Blocks.ColumnSums.{one-more-byte}
+use Rattle.guarantees.proofs.Blocks.Columns.{EqualParities, equal-parities, distanceOf, at-least-two, at-least-four, at-most-two}
 
 -- ---- method 1
 

@@ -10,10 +10,10 @@ use Rattle.cyclic.specs.Laws.{OfWidth}
 use Rattle.frame.specs.Frame.{width}
 use Rattle.frame.specs.Read.{contentOf, checkIn}
 use Rattle.guarantees.specs.Frames.{checkedIn, checkedBits, frames}
-use Rattle.guarantees.proofs.Masks.{length-checked}
-use Rattle.guarantees.proofs.CyclicLines.{CyclicPairs}
-use Rattle.guarantees.proofs.FrameFraming.{passed, sound, accepted, right-of, one-framing}
-use Rattle.guarantees.proofs.FrameBridge.{frame-bridge}
+use Rattle.guarantees.proofs.Lines.Masks.{length-checked}
+use Rattle.guarantees.proofs.Lines.Cyclic.{CyclicPairs}
+use Rattle.guarantees.proofs.Frames.Framing.{passed, sound, accepted, right-of, one-framing}
+use Rattle.guarantees.proofs.Frames.Bridge.{frame-bridge}
 
 pub cyclic-frames : (m : Parameters) (w : ℕ) → OfWidth w m → CyclicPairs m w (frames m)
 unfolding checkedBits

@@ -15,9 +15,9 @@ use Rattle.frame.specs.Stuffing.{Unstuffed, clean, unstuffBit, onesAfter, unstu
 use Rattle.frame.specs.Frame.{flag}
 use Rattle.frame.specs.Read.{between}
 use Rattle.guarantees.specs.Frames.{checkedIn, checkedBits, isCheckedIn, isChecked, frames}
-use Rattle.guarantees.proofs.Masks.{Agree, nothing, inside, outside, select, select-append, select-outside, agree-append, agree-outside, Bridge}
-use Rattle.guarantees.proofs.Unstuffing.{missing-clean, ahead-clean, unstuff-selects}
-use Rattle.guarantees.proofs.FrameFraming.{Passed, passed, sound, one-framing}
+use Rattle.guarantees.proofs.Lines.Masks.{Agree, nothing, inside, outside, select, select-append, select-outside, agree-append, agree-outside, Bridge}
+use Rattle.guarantees.proofs.Frames.Unstuffing.{missing-clean, ahead-clean, unstuff-selects}
+use Rattle.guarantees.proofs.Frames.Framing.{Passed, passed, sound, one-framing}
 
 -- ---- the inserted zeros
 

@@ -17,7 +17,7 @@ use Rattle.cyclic.specs.Check.{Parameters, checkBits}
 use Rattle.cyclic.specs.Laws.{OfWidth}
 use Rattle.cyclic.proofs.Checks.{one-remainder}
 use Rattle.guarantees.specs.Lines.{Lines, SameFraming, TwoAccepted, distance, AtLeast, NoBurst, NeverOdd, AcceptedWhereApart}
-use Rattle.guarantees.proofs.Masks.{Bridge, differ-where-checked, equal-where-checked, length-checked}
+use Rattle.guarantees.proofs.Lines.Masks.{Bridge, differ-where-checked, equal-where-checked, length-checked}
 
 -- an accepted line with its check, and a line of its length and framing, which is accepted where its check is right
 pub record CyclicPair (m : Parameters) (w : ℕ) (L : Lines) (A B : L .Line) : Type 0 where

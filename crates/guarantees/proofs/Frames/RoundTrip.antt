@@ -21,9 +21,9 @@ use Rattle.frame.specs.Frame.{width, flag, enclose, frameOf}
 use Rattle.frame.specs.Write as writing
 use Rattle.frame.specs.Read.{Framed, found, unframed, ask, between, framed, contentOf, checkIn, taken, refusal, askCheck, readBits, readFrame}
 use Rattle.guarantees.specs.Second.{FrameReadsBack, FrameWritesBack}
-use Rattle.guarantees.proofs.Unstuffing.{unstuff-stuff, stuff-unstuff}
-use Rattle.guarantees.proofs.FrameFraming.{passed, CheckRight}
-use Rattle.guarantees.proofs.FrameBridge.{length-flag, whole}
+use Rattle.guarantees.proofs.Frames.Unstuffing.{unstuff-stuff, stuff-unstuff}
+use Rattle.guarantees.proofs.Frames.Framing.{passed, CheckRight}
+use Rattle.guarantees.proofs.Frames.Bridge.{length-flag, whole}
 
 -- ---- the questions of writing, passed
 

@@ -16,9 +16,9 @@ use Rattle.block.specs.Signs.{SOH, endByte}
 use Rattle.block.specs.Walk.{ended}
 use Rattle.block.specs.Marks.{shapeOf}
 use Rattle.block.specs.Write.{isClear, hasHeader, hasText, startSigns, innerSigns, isFree, isEmpty}
-use Rattle.guarantees.proofs.ReadCharacters.{Free}
-use Rattle.guarantees.proofs.Unfilled.{Carries, Unfilled, unmarked, marked, kept}
-use Rattle.guarantees.proofs.UnfilledText.{textBytes}
+use Rattle.guarantees.proofs.Taken.Characters.{Free}
+use Rattle.guarantees.proofs.Taken.Unfilled.{Carries, Unfilled, unmarked, marked, kept}
+use Rattle.guarantees.proofs.Taken.UnfilledText.{textBytes}
 
 -- the writer's questions 1, 4, 2 and 3 are passed
 pub record Allowed (seven : Bool) (s : Shape) (head body : List ℕ) : Type 0 where

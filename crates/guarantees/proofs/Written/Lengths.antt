@@ -25,8 +25,8 @@ use Rattle.block.specs.Characters.{withParity}
 use Rattle.block.specs.Check.{checkOf, checkLength, xorAll}
 use Rattle.block.specs.Write.{isClear, startSigns, innerSigns, countedLength}
 use Rattle.block.proofs.CheckLaws.{matrix-character}
-use Rattle.guarantees.proofs.WrittenWalk.{marksOf, markedTwice, markedClear}
-use Rattle.guarantees.proofs.WrittenLine.{markedText, markedLine}
+use Rattle.guarantees.proofs.Written.Walk.{marksOf, markedTwice, markedClear}
+use Rattle.guarantees.proofs.Written.Line.{markedText, markedLine}
 
 -- ---- the check is whole bytes, so packing it adds no bits
 

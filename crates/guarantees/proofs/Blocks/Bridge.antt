@@ -15,8 +15,8 @@ use Rattle.block.specs.declared.Mark.{Mark}
 use Rattle.block.specs.Marks.{isCounted, counted, checkBytes, LeftOutByte, leftOutIf, leftOut}
 use Rattle.block.proofs.Passed.{Passed, passed}
 use Rattle.guarantees.specs.Blocks.{checkedIn, checkedBits, checkedBytes, eachEight, isCheckedIn, isChecked, blocks}
-use Rattle.guarantees.proofs.Masks.{select, select-append, select-inside, select-outside, Agree, nothing, agree-append, agree-inside, agree-outside, Bridge}
-use Rattle.guarantees.proofs.BlockFraming.{Found, one-framing}
+use Rattle.guarantees.proofs.Lines.Masks.{select, select-append, select-inside, select-outside, Agree, nothing, agree-append, agree-inside, agree-outside, Bridge}
+use Rattle.guarantees.proofs.Blocks.Framing.{Found, one-framing}
 
 -- ---- the mask of a line selects its checked bits
 

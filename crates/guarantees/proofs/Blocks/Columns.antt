@@ -19,7 +19,7 @@ use Rattle.division.proofs.Detection.{difference}
 use Rattle.block.specs.declared.Parity.{Parity}
 use Rattle.block.specs.Check.{columnSums}
 use Rattle.block.proofs.Passed.{ParitiesRight}
-use Rattle.guarantees.proofs.ColumnSums.{allSums, length-all, one-more-sums, divisor, divide-eight, remainder-bytes}
+use Rattle.guarantees.proofs.Blocks.ColumnSums.{allSums, length-all, one-more-sums, divisor, divide-eight, remainder-bytes}
 
 -- ---- bytes, pair by pair of one parity
 

@@ -1,0 +1,7 @@
+-- The third property of blocks. Assumes nothing.
+pub mod Framing
+pub mod Bridge
+pub mod Cyclic
+pub mod ColumnSums
+pub mod Columns
+pub mod Parities

@@ -1,0 +1,7 @@
+-- Frames: what the properties rest on, and their round trip. Assumes nothing.
+pub mod Unstuffing
+pub mod Framing
+pub mod Bridge
+pub mod Cyclic
+pub mod Accepted
+pub mod RoundTrip

@@ -1,0 +1,3 @@
+-- Lines of any kind: the bridge to checked bits, and what a cyclic check detects. Assumes nothing.
+pub mod Masks
+pub mod Cyclic

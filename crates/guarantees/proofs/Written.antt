@@ -1,0 +1,8 @@
+-- A written block reads back. Assumes nothing.
+pub mod Questions
+pub mod Walk
+pub mod Line
+pub mod Parts
+pub mod Parities
+pub mod Lengths
+pub mod Block
