@@ -3,6 +3,7 @@ pub mod Blocks
 pub mod Frames
 pub mod Third
 pub mod Sharp
+pub mod Writing
 pub mod Written
 pub mod Taken
 pub mod Second

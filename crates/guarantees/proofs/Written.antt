@@ -1,5 +1,4 @@
 -- A written block reads back. Assumes nothing.
-pub mod Questions
 pub mod Walk
 pub mod Line
 pub mod Parts

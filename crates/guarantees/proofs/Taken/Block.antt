@@ -1,17 +1,15 @@
 -- Writing the parts that were read gives the line without its fill signs: the parts pass the writer's questions 1 to 6 in turn, and
 -- its line is what is left of the line read. Assumes nothing.
-use mathlib.Core.Path.{_≡_, refl, sym, ap, ap₂, subst, _∙_}
-use Prim.Native.Nat.{ℕ, zero, suc, _+_, _≤_}
+use mathlib.Core.Path.{_≡_, sym, ap, subst, _∙_}
+use Prim.Native.Nat.{ℕ, zero, suc, _≤_}
 use native.Mathlib.Omega.{arith}
-use mathlib.Core.Bool.{Bool, true, false, cond, _&&_}
+use mathlib.Core.Bool.{false}
 use mathlib.Core.List.{List, [], _∷_}
-use lib.ListN.{length, drop, length-append, length-map}
-use borrow.Author.Tests.{le-leb}
+use lib.ListN.{length, drop}
 use Rattle.bits.specs.Bytes.{Bytes, pack}
 use Rattle.bits.proofs.Packing.{pack-bitsOf}
 use Rattle.block.specs.declared.Method.{Method}
 use Rattle.block.specs.declared.Parity.{Parity}
-use Rattle.block.specs.declared.Shape.{Shape}
 use Rattle.block.specs.declared.EndSign.{EndSign}
 use Rattle.block.specs.declared.Mark.{Mark}
 use Rattle.block.specs.declared.Field.{Field}
@@ -20,37 +18,17 @@ use Rattle.block.specs.Characters.{isSeven}
 use Rattle.block.specs.Marks.{counted, checkBytes, header, text, hasInner, shapeOf}
 use Rattle.block.specs.Check.{checkOf}
 use Rattle.block.specs.Read.{Parts}
-use Rattle.block.specs.Write.{WriteAnswer, written, ask, askFree, isClear, countedBytes, countedLength, framedBytes, lineOf, writeBlock}
+use Rattle.block.specs.Write.{written, countedBytes, countedLength, framedBytes, lineOf, writeBlock}
 use Rattle.guarantees.specs.Fill.{unfilled, withoutFill}
 use Rattle.block.proofs.Passed.{Passed, passed}
 use Rattle.guarantees.specs.Second.{ReadWritesBack}
 use Rattle.guarantees.proofs.Blocks.Framing.{CheckRight}
-use Rattle.guarantees.proofs.Taken.Characters.{resent, Free}
-use Rattle.guarantees.proofs.Taken.UnfilledBlock.{Allowed, BlockLeft}
+use Rattle.guarantees.proofs.Writing.{passes}
+use Rattle.guarantees.proofs.Written.Lengths.{length-counted}
+use Rattle.guarantees.proofs.Taken.Characters.{resent}
+use Rattle.guarantees.proofs.Taken.UnfilledBlock.{BlockLeft}
 use Rattle.guarantees.proofs.Taken.UnfilledLine.{block-left}
 use Rattle.guarantees.proofs.Taken.Questions.{taken-passed}
-
--- ---- the writer's questions
-
-ask-holds : {holds : Bool} (n v : ℕ) (next : WriteAnswer) → holds ≡ true → ask holds n v next ≡ next
-ask-holds n v next h = ap (λ t. ask t n v next) h
-
-free-passed : (seven : Bool) (n : ℕ) (bs : List ℕ) (at : ℕ) (next : WriteAnswer) → Free seven bs → askFree seven n bs at next ≡ next
-free-passed seven n [] at next f = refl
-free-passed seven n (b ∷ bs) at next f = ask-holds n at (askFree seven n bs (at + 1) next) (f .0) ∙ free-passed seven n bs (at + 1) next (f .1)
-
-module _ (m : Method) (p : Parity) (s : Shape) (e : EndSign) (head body : List ℕ) where
-  all-passed : (space : ℕ) → Allowed (isSeven m) s head body → countedLength s head body ≤ 4096 → length (lineOf m p s e head body) ≤ space
-      → writeBlock m p s e head body space ≡ written (lineOf m p s e head body)
-  unfolding writeBlock
-  all-passed space a few fits =
-      ask-holds 1 0 _ (a .carried) ∙ ask-holds 4 0 _ (ap₂ _&&_ (a .header-empty) (a .text-empty))
-      ∙ free-passed (isSeven m) 2 head 0 _ (a .header-free) ∙ free-passed (isSeven m) 3 (cond (isClear s) [] body) 0 _ (a .text-free)
-      ∙ ask-holds 5 0 _ (le-leb _ _ few) ∙ ask-holds 6 (length (lineOf m p s e head body)) _ (le-leb _ _ fits)
-
-  length-counted : countedLength s head body ≡ length (countedBytes m p s e head body)
-  unfolding countedLength countedBytes
-  length-counted = sym (simp (length-map, length-append) (omega arith))
 
 bytes-drop : (n : ℕ) (bs : List ℕ) → Bytes bs → Bytes (drop n bs)
 bytes-drop zero bs h = h
@@ -77,10 +55,10 @@ module _ (m : Method) (p : Parity) (line : List ℕ) (ks : List Mark) (f : Field
       → writeBlock m p (shapeOf (hasInner ks) f) e (header (isSeven m) ks line) (text (isSeven m) ks line) space ≡ written (withoutFill m line)
   written-again space fits =
       let few : countedLength (b .kind) (b .head) (b .body) ≤ 4096 =
-      rw (length-counted m p (b .kind) e (b .head) (b .body), ← counted-again) (w .few) in
+      omega (arith, w .few, ap length counted-again, length-counted m p (b .kind) e (b .head) (b .body)) in
       let l : length (lineOf m p (b .kind) e (b .head) (b .body)) ≤ space = rw line-again fits in
       rw (b .is-left .is-inner, b .is-shape, b .is-left .is-header, b .is-left .is-text)
-      (all-passed m p (b .kind) e (b .head) (b .body) space (b .allowed) few l ∙ ap written line-again)
+      (passes m p (b .kind) e (b .head) (b .body) space (b .allowed) few l ∙ ap written line-again)
 
 pub read-writes-back : ReadWritesBack
 read-writes-back m p line b room space bytes h fits =

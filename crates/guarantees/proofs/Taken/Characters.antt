@@ -82,9 +82,6 @@ of-sign c =
 
 -- ---- characters that are no signs
 
-abbrev pub Free : Bool → List ℕ → Type 0
-Free seven = Each (λ b. isFree seven b ≡ true)
-
 pub other-free : (seven : Bool) (b : ℕ) → signOf (character seven b) ≡ other → isFree seven (character seven b) ≡ true
 unfolding isFree character
 other-free true b e = rw (e, lt-ltb (b % 128) 0x80 (omega arith))

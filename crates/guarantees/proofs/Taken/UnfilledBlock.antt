@@ -15,18 +15,10 @@ use Rattle.block.specs.declared.Field.the-variants.{Header}
 use Rattle.block.specs.Signs.{SOH, endByte}
 use Rattle.block.specs.Walk.{ended}
 use Rattle.block.specs.Marks.{shapeOf}
-use Rattle.block.specs.Write.{isClear, hasHeader, hasText, startSigns, innerSigns, isFree, isEmpty}
-use Rattle.guarantees.proofs.Taken.Characters.{Free}
+use Rattle.block.specs.Write.{isClear, hasHeader, hasText, startSigns, innerSigns, isFree}
+use Rattle.guarantees.proofs.Writing.{Free, Allowed}
 use Rattle.guarantees.proofs.Taken.Unfilled.{Carries, Unfilled, unmarked, marked, kept}
 use Rattle.guarantees.proofs.Taken.UnfilledText.{textBytes}
-
--- the writer's questions 1, 4, 2 and 3 are passed
-pub record Allowed (seven : Bool) (s : Shape) (head body : List ℕ) : Type 0 where
-  pub carried : not (seven && isClear s) ≡ true
-  pub header-empty : hasHeader s || isEmpty head ≡ true
-  pub text-empty : hasText s || isEmpty body ≡ true
-  pub header-free : Free seven head
-  pub text-free : Free seven (cond (isClear s) [] body)
 
 pub plain-carried : (seven : Bool) → not (seven && false) ≡ true
 plain-carried true = refl
@@ -63,7 +55,7 @@ module _ (seven : Bool) (p : Parity) where
         is-shape = ap (shapeOf false) q;
         is-left = kept seven p c (unmarked seven p rest) End;
         has-header = λ s. refl;
-        allowed = record { carried = plain-carried seven; header-empty = refl; text-empty = refl; header-free = tt; text-free = tt };
+        allowed = record { carried = plain-carried seven; header-fits = refl; text-fits = refl; header-free = tt; text-free = tt };
       }
 
   module _ {g : Field} {e : EndSign} {ks : List Mark} {line left : List ℕ} {b c : ℕ} (d : Carries seven p b c) (h : BlockLeft true g e ks line left) where
@@ -93,8 +85,8 @@ module _ (seven : Bool) (p : Parity) where
           allowed =
               record {
                 carried = h .allowed .carried;
-                header-empty = rw (h .has-header refl);
-                text-empty = h .allowed .text-empty;
+                header-fits = rw (h .has-header refl);
+                text-fits = h .allowed .text-fits;
                 header-free = (f, h .allowed .header-free);
                 text-free = h .allowed .text-free;
               };
@@ -131,5 +123,5 @@ module _ (seven : Bool) (p : Parity) where
         is-shape = q;
         is-left = u;
         has-header = λ h. h;
-        allowed = record { carried = k; header-empty = or-true (hasHeader s); text-empty = rw t; header-free = tt; text-free = f };
+        allowed = record { carried = k; header-fits = or-true (hasHeader s); text-fits = rw t; header-free = tt; text-free = f };
       }

@@ -3,8 +3,8 @@ use mathlib.Core.Path.{_≡_, sym, ap, ap₂, _∙_}
 use Prim.Native.Nat.{ℕ, _+_, _≤_}
 use native.Mathlib.Omega.{arith}
 use mathlib.Core.Bool.{Bool, cond}
-use mathlib.Core.List.{List, [], _∷_, _++_, map}
-use lib.ListN.{length, length-append, length-map}
+use mathlib.Core.List.{List, _++_, map}
+use lib.ListN.{length, length-append}
 use borrow.Author.Tests.{le-leb, eq-eqb}
 use Rattle.bits.specs.Bytes.{bitsOf, pack}
 use Rattle.bits.proofs.Strings.{same-self}
@@ -15,16 +15,15 @@ use Rattle.block.specs.declared.EndSign.{EndSign}
 use Rattle.block.specs.declared.Mark.{Mark}
 use Rattle.block.specs.declared.Field.{Field}
 use Rattle.block.specs.declared.Field.the-variants.{Start}
-use Rattle.block.specs.Signs.{endByte}
 use Rattle.block.specs.Characters.{isSeven, character, sent}
 use Rattle.block.specs.Walk.{walk, ended}
 use Rattle.block.specs.Marks.{isHeader, isText, isCounted, sift, counted, checkBytes}
 use Rattle.block.specs.Check.{checkOf, checkLength}
 use Rattle.block.specs.Read.{Framed, found, framed, askParities, askEnd, Parts, partsOf, outputLength, taken, askCheck, readBlock}
-use Rattle.block.specs.Write.{innerSigns, countedBytes, countedLength, lineOf}
+use Rattle.block.specs.Write.{countedBytes, countedLength, lineOf}
 use Rattle.block.proofs.CheckLaws.{check-short, length-check-of}
 use Rattle.guarantees.specs.Second.{partsWritten, WrittenReadsBack}
-use Rattle.guarantees.proofs.Written.Questions.{PassesWriting, passed}
+use Rattle.guarantees.proofs.Writing.{Allowed, passed}
 use Rattle.guarantees.proofs.Written.Walk.{Marked, marksOf, charactersOf, walk-is}
 use Rattle.guarantees.proofs.Written.Line.{markedLine, framed-bytes, endField, line-walks}
 use Rattle.guarantees.proofs.Written.Parts.{pick, header-picked, text-picked, counted-picked, shape-back, sift-sent, length-sent, check-bytes, characters-back}
@@ -56,7 +55,8 @@ module _ {m : Method} {p : Parity} {line : List ℕ} {ks : List Mark} {f : Field
 
 -- ---- the written line passes them
 
-module _ (m : Method) (p : Parity) (s : Shape) (e : EndSign) (head body : List ℕ) (c : PassesWriting (isSeven m) s head body) where
+module _ (m : Method) (p : Parity) (s : Shape) (e : EndSign) (head body : List ℕ) (c : Allowed (isSeven m) s head body)
+    (few : countedLength s head body ≤ 4096) where
   abbrev xs : List Marked
   xs = markedLine s e head body
 
@@ -81,20 +81,19 @@ module _ (m : Method) (p : Parity) (s : Shape) (e : EndSign) (head body : List �
   counted-is = sift-sent send check isCounted xs ∙ ap (map send) (counted-picked s e head body)
 
   count-is : length (counted (marksOf xs) line) ≡ countedLength s head body
-  unfolding countedBytes
-  count-is = ap length counted-is ∙ length-map (head ++ (innerSigns s ++ (body ++ endByte e ∷ []))) send ∙ length-counted s e head body
+  count-is = ap length counted-is ∙ length-counted m p s e head body
 
   length-line : length line ≡ length (marksOf xs) + checkLength m
   length-line = length-append (map send (charactersOf xs)) check ∙ ap₂ _+_ (length-sent send xs) (length-check-of m p countedWritten)
 
-  passes : PassesReading m p line (marksOf xs) (endField s) e
-  passes =
+  reads : PassesReading m p line (marksOf xs) (endField s) e
+  reads =
       record {
-        short = omega (arith, length-line, marks-short s e head body (c .count), check-short m);
+        short = omega (arith, length-line, marks-short s e head body few, check-short m);
         parities = written-parities p m (charactersOf xs) countedWritten;
         walked = walk-is (line-walks (isSeven m) p s e head body c) check 0;
         check-follows = length-line;
-        count = omega (arith, count-is, c .count);
+        count = omega (arith, count-is, few);
         check-right = ap bitsOf (check-bytes send check xs) ∙ check-back m p countedWritten ∙ ap (checkOf m p) (sym counted-is);
       }
 
@@ -113,5 +112,7 @@ module _ (m : Method) (p : Parity) (s : Shape) (e : EndSign) (head body : List �
 pub written-reads-back : WrittenReadsBack
 written-reads-back m p s e head body line room space bytes-head bytes-body w h =
     let q = passed m p s e head body line room w in
-    ap (λ z. readBlock m p z space) (q .1 ∙ line-is m p s e head body (q .0))
-    ∙ line-taken (passes m p s e head body (q .0)) (partsWritten s e head body) space (parts-are m p s e head body (q .0)) h
+    let a = q .allowed in
+    let n = q .count in
+    ap (λ z. readBlock m p z space) (q .line-is ∙ line-is m p s e head body a n)
+    ∙ line-taken (reads m p s e head body a n) (partsWritten s e head body) space (parts-are m p s e head body a n) h

@@ -20,10 +20,10 @@ use Rattle.block.specs.declared.Parity.{Parity}
 use Rattle.block.specs.declared.Shape.{Shape}
 use Rattle.block.specs.declared.Shape.the-variants as shape
 use Rattle.block.specs.declared.EndSign.{EndSign}
-use Rattle.block.specs.Signs.{DLE, endByte}
+use Rattle.block.specs.Signs.{DLE}
 use Rattle.block.specs.Characters.{withParity}
 use Rattle.block.specs.Check.{checkOf, checkLength, xorAll}
-use Rattle.block.specs.Write.{isClear, startSigns, innerSigns, countedLength}
+use Rattle.block.specs.Write.{isClear, startSigns, countedBytes, countedLength}
 use Rattle.block.proofs.CheckLaws.{matrix-character}
 use Rattle.guarantees.proofs.Written.Walk.{marksOf, markedTwice, markedClear}
 use Rattle.guarantees.proofs.Written.Line.{markedText, markedLine}
@@ -72,6 +72,7 @@ module _ (s : Shape) (e : EndSign) (head body : List ℕ) where
   unfolding countedLength
   marks-short h = simp (length-map, length-append) (omega (arith, start-short s, text-short (isClear s) e body))
 
-  pub length-counted : length (head ++ (innerSigns s ++ (body ++ endByte e ∷ []))) ≡ countedLength s head body
-  unfolding countedLength
-  length-counted = simp length-append (omega arith)
+pub length-counted : (m : Method) (p : Parity) (s : Shape) (e : EndSign) (head body : List ℕ)
+    → length (countedBytes m p s e head body) ≡ countedLength s head body
+unfolding countedLength countedBytes
+length-counted m p s e head body = simp (length-map, length-append) (omega arith)

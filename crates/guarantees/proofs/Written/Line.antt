@@ -1,5 +1,5 @@
 -- The line that is written of a shape's parts, each character with its mark, and the walk over it to its end sign. Assumes nothing.
-use mathlib.Core.Path.{_≡_, refl, ap, _∙_}
+use mathlib.Core.Path.{_≡_, refl, sym, ap, _∙_}
 use Prim.Native.Nat.{ℕ}
 use native.Mathlib.Omega.{arith}
 use mathlib.Core.Bool.{Bool, true, false, cond, true≢false}
@@ -22,7 +22,7 @@ use Rattle.block.specs.Signs.{etx, etb, us, signOf, SOH, STX, DLE, endByte}
 use Rattle.block.specs.Characters.{isSeven, sent}
 use Rattle.block.specs.Walk.{judge}
 use Rattle.block.specs.Write.{isClear, startSigns, innerSigns, isEmpty, escaped, doubled, framedBytes}
-use Rattle.guarantees.proofs.Written.Questions.{PassesWriting}
+use Rattle.guarantees.proofs.Writing.{Allowed}
 use Rattle.guarantees.proofs.Written.Walk.{Marked, sentAs, charactersOf, marked, markedTwice, markedClear, low-back, Walks, end, step, free-walks, clear-walks}
 
 -- text and end sign; in clear text the DLE before the end sign is left out
@@ -93,7 +93,7 @@ clear-text-walks : {p : Parity} (e : EndSign) (body : List ℕ) → Walks false 
 unfolding signOf
 clear-text-walks {p = p} e body = clear-walks body (step {g = ClearDle} (low-back false p DLE (lit< tt)) refl (end-walks e refl refl refl))
 
-pub line-walks : (seven : Bool) (p : Parity) (s : Shape) (e : EndSign) (head body : List ℕ) → PassesWriting seven s head body
+pub line-walks : (seven : Bool) (p : Parity) (s : Shape) (e : EndSign) (head body : List ℕ) → Allowed seven s head body
     → Walks seven p Start (markedLine s e head body) (endField s) e
 unfolding signOf
 line-walks seven p shape.Header e head body c =
@@ -106,8 +106,8 @@ line-walks seven p shape.HeaderText e head body c =
     step {g = Header} (low-back seven p SOH (lit< tt)) refl
     (free-walks head refl (c .header-free)
     (step {g = Text} (low-back seven p STX (lit< tt)) refl (free-walks body refl (c .text-free) (end-walks e refl refl refl))))
-line-walks true p shape.ClearText e head body c = absurd (true≢false (c .carried))
-line-walks true p shape.HeaderClearText e head body c = absurd (true≢false (c .carried))
+line-walks true p shape.ClearText e head body c = absurd (true≢false (sym (c .carried)))
+line-walks true p shape.HeaderClearText e head body c = absurd (true≢false (sym (c .carried)))
 line-walks false p shape.ClearText e head body c =
     rw (empty head (c .header-fits))
     (step {g = StartDle} (low-back false p DLE (lit< tt)) refl (step {g = Clear} (low-back false p STX (lit< tt)) refl (clear-text-walks e body)))

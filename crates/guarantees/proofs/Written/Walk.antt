@@ -17,7 +17,7 @@ use Rattle.block.specs.Signs.{Sign, soh, stx, etx, dle, syn, etb, us, other, si
 use Rattle.block.specs.Characters.{character, withParity, sent}
 use Rattle.block.specs.Walk.{ended, ahead, onward, judge, inClear, walk}
 use Rattle.block.specs.Write.{isOther, isFree}
-use Rattle.guarantees.proofs.Written.Questions.{Free}
+use Rattle.guarantees.proofs.Writing.{Free}
 
 -- a character that is sent, and the mark that it is to have
 pub record Marked : Type 0 where
