@@ -1,9 +1,21 @@
-// Document 01's numbers for the answers of the block calls, for programs and the C library: every answer has its number.
+// Document 01's numbers for the answers of the block and frame calls, for programs and the C library: every answer has its number.
+use block::ETB;
+use block::ETX;
+use block::EndSign;
 use block::ReadRefusal;
 use block::Shape;
+use block::US;
 use block::WriteRefusal;
 ghost use mathlib.Core.Path.{_≡_};
+ghost use Rattle.block.specs.Signs.{endByte};
 ghost use Rattle.block.specs.Answers.{shapeNumber, readNumber, readValue, writeNumber, writeValue};
+
+mod frames;
+
+pub use frames::frame_read_number;
+pub use frames::frame_read_value;
+pub use frames::frame_write_number;
+pub use frames::frame_write_value;
 
 pub fn shape_number(s: Shape) -> usize
     ensures { λ r. ⌜ r ≡ shapeNumber s ⌝ }
@@ -14,6 +26,16 @@ pub fn shape_number(s: Shape) -> usize
         Shape::HeaderText => 3,
         Shape::ClearText => 4,
         Shape::HeaderClearText => 5,
+    }
+}
+
+pub fn end_byte(e: EndSign) -> u8
+    ensures { λ r. ⌜ r ≡ endByte e ⌝ }
+{
+    match e {
+        EndSign::Etx => ETX,
+        EndSign::Etb => ETB,
+        EndSign::Us => US,
     }
 }
 

@@ -1,5 +1,8 @@
-// The library for C and Rust: the checks of methods 3 to 6 as exported functions.
-// A slice is passed as a pointer and then a length. Bit 0 of a check is its highest power and is sent first.
+// The library for C and Rust: reading and writing blocks and frames, the number check, and the checks of methods 3 to 6, as
+// exported functions. A slice is passed as a pointer and then a length, a `&mut` number or array as a pointer. Methods, shapes
+// and refusals go by document 01's numbers; 0 is success. Every input is taken: a code outside its list answers 1, with an
+// answer of zeros. The output keeps every byte that a success does not name. Bit 0 of a check is its highest power and is sent
+// first.
 use cyclic::Cyclic3;
 use cyclic::Cyclic4;
 use cyclic::Cyclic5;
@@ -7,6 +10,17 @@ use cyclic::Cyclic6;
 ghost use mathlib.Core.Path.{_≡_};
 ghost use Rattle.bits.specs.Bytes.{lowBits, bitsOf};
 ghost use Rattle.cyclic.specs.Check.{checkBits, method3, method4, method5, method6};
+
+mod blocks;
+mod codes;
+mod frames;
+mod numbers;
+
+pub use blocks::corridor_read_block;
+pub use blocks::corridor_write_block;
+pub use frames::corridor_read_frame;
+pub use frames::corridor_write_frame;
+pub use numbers::corridor_receive;
 
 #[no_mangle]
 pub extern "C" fn corridor_check_3(content: &[u8]) -> u16

@@ -1,0 +1,70 @@
+-- `corridor_read_block` meets its contract: each return knows which codes were known, and the last the answer of the call below.
+-- Assumes nothing.
+use mathlib.Core.Path.{sym, _∙_}
+use Rattle.corridor.proofs.Answered.{block-answered}
+use borrow.Author.Needs.{needs}
+use Rattle.corridor.proofs.blocks.corridor_read_block.Statement.{statement}
+use Rattle.corridor.proofs.blocks.corridor_read_block.Tie as tie
+
+method-of-requires : tie.Need-method-of-requires
+method-of-requires c κs = search needs
+
+enum-known-m : tie.Need-enum-known-m
+enum-known-m c = search needs
+
+enum-told : tie.Need-enum-told
+enum-told c = search needs
+
+returns : tie.Need-returns
+returns c = rw (sym (c .before .before .method-of .ensures) ∙ c .enum-told .given .1)
+
+parity-of-requires : tie.Need-parity-of-requires
+parity-of-requires c κs = search needs
+
+enum-known-p : tie.Need-enum-known-p
+enum-known-p c = search needs
+
+enum-told-2 : tie.Need-enum-told-2
+enum-told-2 c = search needs
+
+returns-2 : tie.Need-returns-2
+returns-2 c =
+    let m = c .before .before .before .before in
+    rw (sym (m .before .before .method-of .ensures) ∙ m .m .given .1, sym (c .before .before .parity-of .ensures) ∙ c .enum-told2 .given .1)
+
+read-block-requires : tie.Need-read-block-requires
+read-block-requires c κs = search needs
+
+read-values-requires : tie.Need-read-values-requires
+read-values-requires c κs = search needs
+
+read-number-requires : tie.Need-read-number-requires
+read-number-requires c κs = search needs
+
+same-length : tie.Need-same-length
+same-length c = search needs
+
+returns-3 : tie.Need-returns-3
+returns-3 c =
+    let p = c .before .before .before .before .before .before .before in
+    let m = p .before .before .before .before in
+    rw (sym (m .before .before .method-of .ensures) ∙ m .m .given .1, sym (p .before .before .parity-of .ensures) ∙ p .p .given .1)
+    (block-answered 5 (c .before .before .before .before .read-block .ensures .0) (c .read-number .ensures) (c .before .read-values .ensures) (c .before .before .before .before .read-block .ensures .1))
+
+pub corridor-read-block-spec : {M : Type 1} → statement M
+corridor-read-block-spec =
+    tie.close
+    (tie.spec
+    method-of-requires
+    enum-known-m
+    enum-told
+    returns
+    parity-of-requires
+    enum-known-p
+    enum-told-2
+    returns-2
+    read-block-requires
+    read-values-requires
+    read-number-requires
+    same-length
+    returns-3)

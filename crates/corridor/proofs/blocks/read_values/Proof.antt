@@ -1,0 +1,33 @@
+-- `read_values` meets its contract: each arm knows the answer. Assumes nothing.
+use borrow.Author.Needs.{needs}
+use Rattle.corridor.proofs.blocks.read_values.Statement.{statement}
+use Rattle.corridor.proofs.blocks.read_values.Tie as tie
+
+enum-known-read : tie.Need-enum-known-read
+enum-known-read c = search needs
+
+parts-of-requires : tie.Need-parts-of-requires
+parts-of-requires c κs = search needs
+
+enum-known-read-2 : tie.Need-enum-known-read-2
+enum-known-read-2 c = search needs
+
+read-value-requires : tie.Need-read-value-requires
+read-value-requires c κs = search needs
+
+returns : tie.Need-returns
+returns c = rw (c .before .before .read .given .1) (c .parts-of .ensures)
+
+returns-2 : tie.Need-returns-2
+returns-2 c = rw (c .before .before .read2 .given .1, c .read-value .ensures)
+
+pub read-values-spec : {M : Type 1} → statement M
+read-values-spec =
+    tie.close
+    (tie.spec
+    enum-known-read
+    parts-of-requires
+    enum-known-read-2
+    read-value-requires
+    returns
+    returns-2)

@@ -1,0 +1,51 @@
+-- `corridor_read_frame` meets its contract: each return knows which codes were known, and the last the answer of the call below.
+-- Assumes nothing.
+use mathlib.Core.Path.{sym, _∙_}
+use Rattle.corridor.proofs.Answered.{frame-answered}
+use borrow.Author.Needs.{needs}
+use Rattle.corridor.proofs.frames.corridor_read_frame.Statement.{statement}
+use Rattle.corridor.proofs.frames.corridor_read_frame.Tie as tie
+
+frame-method-of-requires : tie.Need-frame-method-of-requires
+frame-method-of-requires c κs = search needs
+
+enum-known-m : tie.Need-enum-known-m
+enum-known-m c = search needs
+
+enum-told : tie.Need-enum-told
+enum-told c = search needs
+
+returns : tie.Need-returns
+returns c = rw (sym (c .before .before .frame-method-of .ensures) ∙ c .enum-told .given .1)
+
+read-frame-requires : tie.Need-read-frame-requires
+read-frame-requires c κs = search needs
+
+read-value-requires : tie.Need-read-value-requires
+read-value-requires c κs = search needs
+
+read-number-requires : tie.Need-read-number-requires
+read-number-requires c κs = search needs
+
+same-length : tie.Need-same-length
+same-length c = search needs
+
+returns-2 : tie.Need-returns-2
+returns-2 c =
+    let m = c .before .before .before .before .before .before .before in
+    rw (sym (m .before .before .frame-method-of .ensures) ∙ m .m .given .1)
+    (frame-answered (c .before .before .before .before .read-frame .ensures .0) (c .read-number .ensures) (c .before .read-value .ensures) (c .before .before .before .before .read-frame .ensures .1))
+
+pub corridor-read-frame-spec : {M : Type 1} → statement M
+corridor-read-frame-spec =
+    tie.close
+    (tie.spec
+    frame-method-of-requires
+    enum-known-m
+    enum-told
+    returns
+    read-frame-requires
+    read-value-requires
+    read-number-requires
+    same-length
+    returns-2)
