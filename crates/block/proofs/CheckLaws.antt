@@ -13,9 +13,9 @@ use Rattle.bits.proofs.Bytes.{length-lowBits, lowBits-append, lowBits-mod, lowB
 use Rattle.bits.proofs.Strings.{xor-comm, xor-assoc, xor-zeros, length-xor}
 use Rattle.bits.proofs.Packing.{length-pack}
 use Rattle.cyclic.specs.Check.{Parameters, invertIf, checkBits, method3, method4}
-use Rattle.cyclic.specs.Register.{tableOf, enterAllByTable}
+use Rattle.registers.specs.Register.{tableOf, enterAllByTable}
 use Rattle.cyclic.specs.Laws.{OfWidth}
-use Rattle.cyclic.proofs.Table.{entered-by}
+use Rattle.registers.proofs.Table.{entered-by}
 use Rattle.cyclic.proofs.Checks.{length-check}
 use Rattle.cyclic.proofs.Methods.{check-of, width-3, width-4}
 use Rattle.block.specs.declared.Method.{Method}

@@ -15,7 +15,7 @@ use Rattle.bits.specs.Bytes.{lowBits, bitsOf, Bytes, littleEndian, pack}
 use Rattle.bits.proofs.Strings.{same-sound, same-self}
 use Rattle.bits.proofs.Bytes.{bitsOf-one, bitsOf-injective}
 use Rattle.bits.proofs.Packing.{bitsOf-littleEndian, pack-lowBits}
-use Rattle.cyclic.specs.Register.{enterByTable, enterAllByTable}
+use Rattle.registers.specs.Register.{enterByTable, enterAllByTable}
 use Rattle.block.specs.declared.Method.the-variants as method
 use Rattle.block.specs.declared.Parity.{Parity}
 use Rattle.block.specs.Characters.{withParity}

@@ -2,7 +2,7 @@
 use crate::judge::character;
 use block::DLE;
 use block::SYN;
-use cyclic::enter_byte16;
+use registers::enter_byte16;
 ghost use mathlib.Core.Path.{_≡_};
 ghost use mathlib.Core.Bool.{true, false};
 ghost use mathlib.Core.List.{[], map};
@@ -10,7 +10,7 @@ ghost use Prim.Native.Nat.{_+_, _≤_};
 ghost use lib.ListN.{length};
 ghost use lib.Seq.{sets};
 ghost use Rattle.bits.specs.Differences.{consIf};
-ghost use Rattle.cyclic.specs.Register.{enterAllByTable};
+ghost use Rattle.registers.specs.Register.{enterAllByTable};
 ghost use Rattle.block.specs.Characters as rule;
 ghost use Rattle.block.specs.Check.{xorAll};
 ghost use Rattle.block_reader.specs.Framings.{isKept, nextBehind, keptBytes};

@@ -9,7 +9,7 @@ use Rattle.bits.specs.Strings.{add, xor, parity}
 use Rattle.bits.specs.Bytes.{bitsOf, pack}
 use Rattle.bits.proofs.Packing.{pack-lowBits}
 use Rattle.cyclic.specs.Check.{Parameters, checkBits, method3, method4}
-use Rattle.cyclic.specs.Register.{enterByTable, enterAllByTable}
+use Rattle.registers.specs.Register.{enterByTable, enterAllByTable}
 use Rattle.block.specs.declared.Method.{Method}
 use Rattle.block.specs.declared.Method.the-variants as method
 use Rattle.block.specs.declared.Parity.{Parity}

@@ -12,9 +12,9 @@ use Rattle.division.specs.Division.{remainder}
 use Rattle.division.specs.Generators.{ibm16}
 use Rattle.division.proofs.Generators.{ccitt16-generator, ibm16-generator, ieee32-generator, receiver-16, receiver-32}
 use Rattle.cyclic.specs.Check.{Parameters, formula, invertIf, checkBits, method3, method4, method5, method6, Constants}
-use Rattle.cyclic.specs.Register.{enter}
+use Rattle.registers.specs.Register.{enter}
 use Rattle.cyclic.specs.Laws.{OfWidth, Receives, Receivers, Method4Formula}
-use Rattle.cyclic.proofs.Enter.{enter-is-formula}
+use Rattle.registers.proofs.Enter.{enter-is-formula}
 use Rattle.cyclic.proofs.Checks.{receiver}
 
 -- ---- widths

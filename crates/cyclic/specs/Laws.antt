@@ -1,17 +1,15 @@
 -- What is proved of the checks: each statement once, under the name that its proof carries. Assumes nothing.
 use mathlib.Core.Path.{_≡_}
 use mathlib.Core.Logic.{_↔_}
-use Prim.Native.Nat.{ℕ, _+_, _^_, _<_}
+use Prim.Native.Nat.{ℕ, _+_}
 use mathlib.Core.Bool.{Bool, true, false}
 use mathlib.Core.List.{List, _++_}
 use lib.ListN.{length}
 use Rattle.bits.specs.Strings.{xor, zeros, ones}
-use Rattle.bits.specs.Bytes.{lowBits, bitsOf}
 use Rattle.division.specs.Division.{remainder, Divides}
 use Rattle.division.specs.Generators.{ibm16, receiver16, receiver32}
 use Rattle.division.specs.Laws.{Generator}
 use Rattle.cyclic.specs.Check.{Parameters, formula, checkBits, checkedBits, method3, method4, method5, method6}
-use Rattle.cyclic.specs.Register.{enter, tableOf, enterAllByTable}
 
 -- parameters of width w
 pub record OfWidth (w : ℕ) (m : Parameters) : Type 0 where
@@ -58,16 +56,3 @@ abbrev pub CheckedDifference : Type 0
 CheckedDifference =
     (w : ℕ) (m : Parameters) → OfWidth w m → (c d : List Bool) → length c ≡ length d
     → Divides (m .generator) (xor (checkedBits m c) (checkedBits m d))
-
--- ---- the register
-
--- bits that enter at the high end of a register of w bits leave the remainder of x^w · C + x^k · register
-abbrev pub EnterIsFormula : Type 0
-EnterIsFormula =
-    (w : ℕ) (p r c : List Bool) → 0 < w → length p ≡ w → length r ≡ w → enter p r c ≡ remainder p (xor (c ++ zeros w) (r ++ zeros (length c)))
-
--- bytes that enter through the table of a generator, at any width from a byte on, enter bit by bit
-abbrev pub TableEnters : Type 0
-TableEnters =
-    (j : ℕ) (p : List Bool) → length p ≡ 8 + j → (register : ℕ) (bytes : List ℕ) → register < 2 ^ (8 + j)
-    → lowBits (8 + j) (enterAllByTable (tableOf (8 + j) p) register bytes) ≡ enter p (lowBits (8 + j) register) (bitsOf bytes)

@@ -1,10 +1,10 @@
 // Method 3: the check of a block by appendix 1, inverted.
-use crate::registers::enter_slice16;
 use crate::tables::ccitt16::CCITT16;
+use registers::enter_slice16;
 ghost use mathlib.Core.Path.{_≡_};
 ghost use Rattle.bits.specs.Bytes.{lowBits, bitsOf};
 ghost use Rattle.cyclic.specs.Check.{method3, invertIf, checkBits, Constants};
-ghost use Rattle.cyclic.specs.Register.{tableOf, enter};
+ghost use Rattle.registers.specs.Register.{tableOf, enter};
 
 // The register of the check. Bit 0 of a number is the highest power of x.
 pub struct Cyclic3 {

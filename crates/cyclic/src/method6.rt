@@ -1,10 +1,10 @@
 // Method 6: the check of a frame by appendix 2, inverted.
-use crate::registers::enter_slice32;
 use crate::tables::ieee32::IEEE32;
+use registers::enter_slice32;
 ghost use mathlib.Core.Path.{_≡_};
 ghost use Rattle.bits.specs.Bytes.{lowBits, bitsOf};
 ghost use Rattle.cyclic.specs.Check.{method6, invertIf, checkBits, Constants};
-ghost use Rattle.cyclic.specs.Register.{tableOf, enter};
+ghost use Rattle.registers.specs.Register.{tableOf, enter};
 
 // The register of the check. Bit 0 of a number is the highest power of x.
 pub struct Cyclic6 {

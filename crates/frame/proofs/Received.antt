@@ -13,10 +13,10 @@ use Rattle.bits.proofs.Bytes.{lowBits-injective}
 use Rattle.division.specs.Division.{remainder}
 use Rattle.division.specs.Generators.{receiver16, receiver32}
 use Rattle.cyclic.specs.Check.{Parameters, formula, checkBits, method5, method6}
-use Rattle.cyclic.specs.Register.{tableOf, enter, enterAllByTable}
+use Rattle.registers.specs.Register.{tableOf, enter, enterAllByTable}
 use Rattle.cyclic.specs.Laws.{OfWidth, Receives}
-use Rattle.cyclic.proofs.Enter.{enter-is-formula}
-use Rattle.cyclic.proofs.Table.{entered-by}
+use Rattle.registers.proofs.Enter.{enter-is-formula}
+use Rattle.registers.proofs.Table.{entered-by}
 use Rattle.frame.specs.Frame.{width}
 use Rattle.frame.specs.Read.{contentOf, checkIn}
 use Rattle.frame.proofs.Places.{equal-as-bits}

@@ -11,7 +11,7 @@ use lib.ListN.{length, take, drop, getD, set, length-drop, length-set}
 use lib.Seq.{slice, sets}
 use Rattle.bits.specs.Bytes.{bitsOf, digit, value, packInto}
 use Rattle.bits.proofs.Bytes.{length-bitsOf}
-use Rattle.cyclic.specs.Register.{enterByTable, enterAllByTable}
+use Rattle.registers.specs.Register.{enterByTable, enterAllByTable}
 use Rattle.frame.specs.declared.BitReader.{BitReader}
 use Rattle.frame.specs.Stuffing.{Unstuffed, clean, missing, ahead, onesAfter, unstuff}
 use Rattle.frame.specs.Steps.{left, behindFlag, found, unframed, zerosAnswer}

@@ -2,8 +2,8 @@
 use crate::BitReader;
 use crate::DataBit;
 use crate::DataByte;
-use cyclic::enter_byte16;
-use cyclic::enter_byte32;
+use registers::enter_byte16;
+use registers::enter_byte32;
 ghost use mathlib.Core.Path.{_≡_};
 ghost use mathlib.Core.Bool.{false};
 ghost use mathlib.Core.List.{_∷_};
@@ -11,7 +11,7 @@ ghost use Prim.Native.Nat.{_+_, _*_, _^_, _<_, _≤_};
 ghost use lib.ListN.{length, take, drop, getD};
 ghost use lib.Seq.{sets};
 ghost use Rattle.bits.specs.Bytes.{bitsOf, digit, value, packInto};
-ghost use Rattle.cyclic.specs.Register.{enterAllByTable};
+ghost use Rattle.registers.specs.Register.{enterAllByTable};
 ghost use Rattle.frame.specs.Stuffing.{onesAfter};
 ghost use Rattle.frame.specs.Steps.{left, behindFlag};
 

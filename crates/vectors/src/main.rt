@@ -22,7 +22,7 @@ fn print_byte(byte: u8) {
 
 // A check in the order sent.
 fn print_sent16(label: &[u8], check: u16) {
-    let sent = cyclic::sent16(check);
+    let sent = registers::sent16(check);
     io::write_all(STDOUT_FILENO, label);
     print_byte(sent[0]);
     print_byte(sent[1]);
@@ -30,7 +30,7 @@ fn print_sent16(label: &[u8], check: u16) {
 }
 
 fn print_sent32(label: &[u8], check: u32) {
-    let sent = cyclic::sent32(check);
+    let sent = registers::sent32(check);
     io::write_all(STDOUT_FILENO, label);
     print_byte(sent[0]);
     print_byte(sent[1]);
@@ -47,7 +47,7 @@ fn check_4_by_bytes(content: &[u8]) -> u16
     let mut register = Cyclic4::START;
     let mut i = 0;
     while i < content.len() {
-        register = cyclic::enter_byte16(&table, register, content[i]);
+        register = registers::enter_byte16(&table, register, content[i]);
         i += 1;
     }
     Cyclic4 { register }.check()

@@ -7,8 +7,8 @@ use lib.ListN.{length}
 use borrow.Author.Needs.{needs}
 use Rattle.bits.specs.Bytes.{lowBits, bitsOf}
 use Rattle.cyclic.specs.Check.{method4}
-use Rattle.cyclic.proofs.Loop.{Entering, begin, turn, whole}
-use Rattle.cyclic.proofs.Table.{entered-by}
+use Rattle.registers.proofs.Loop.{Entering, begin, turn, whole}
+use Rattle.registers.proofs.Table.{entered-by}
 use Rattle.cyclic.proofs.Methods.{width-4, check-of}
 use Rattle.vectors.proofs.check_4_by_bytes.Statement.{statement}
 use Rattle.vectors.proofs.check_4_by_bytes.Tie as tie

@@ -1,7 +1,7 @@
 -- `enter_counted` meets its contract: header, inner start, text and end sign enter one after the other. Assumes nothing.
 use mathlib.Core.Bool.{false}
 use mathlib.Core.Path.{_∙_}
-use Rattle.cyclic.specs.Register.{enterAllByTable}
+use Rattle.registers.specs.Register.{enterAllByTable}
 use Rattle.block.proofs.CheckLaws.{enterAll-append}
 use Rattle.block_reader.proofs.ReceivedChecks.{folded, enter-last}
 use borrow.Author.Needs.{needs}

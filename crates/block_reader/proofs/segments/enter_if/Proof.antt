@@ -1,5 +1,5 @@
 -- `enter_if` meets its contract. Assumes nothing.
-use Rattle.cyclic.specs.Register.{enterAllByTable}
+use Rattle.registers.specs.Register.{enterAllByTable}
 use borrow.Author.Needs.{needs}
 use Rattle.block_reader.proofs.segments.enter_if.Statement.{statement}
 use Rattle.block_reader.proofs.segments.enter_if.Tie as tie

@@ -3,7 +3,7 @@ use Prim.Native.Nat.{_-_}
 use native.Mathlib.Omega.{arith}
 use mathlib.Core.Bool.{false}
 use lib.ListN.{length}
-use Rattle.cyclic.specs.Register.{enterAllByTable}
+use Rattle.registers.specs.Register.{enterAllByTable}
 use Rattle.block.proofs.CheckLaws.{enterAll-nil, enterAll-append}
 use Rattle.block_reader.proofs.Kept.{Folding, begin, turn, whole}
 use borrow.Author.Needs.{needs}

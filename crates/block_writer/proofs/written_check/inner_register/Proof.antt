@@ -1,7 +1,7 @@
 -- `inner_register` meets its contract, shape by shape. Assumes nothing.
 use mathlib.Core.Path.{ap, _∙_}
 use borrow.Author.Needs.{needs}
-use Rattle.cyclic.specs.Register.{enterByTable, enterAllByTable}
+use Rattle.registers.specs.Register.{enterByTable, enterAllByTable}
 use Rattle.block.specs.Signs.{STX}
 use Rattle.block_writer.proofs.written_check.inner_register.Statement.{statement}
 use Rattle.block_writer.proofs.written_check.inner_register.Tie as tie

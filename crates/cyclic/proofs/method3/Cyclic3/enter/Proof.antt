@@ -1,7 +1,7 @@
 -- `Cyclic3::enter` meets its contract: bytes that enter through the generator's table enter bit by bit. Assumes nothing.
 use borrow.Author.Needs.{needs}
 use Rattle.cyclic.specs.Check.{method3}
-use Rattle.cyclic.proofs.Table.{entered-by}
+use Rattle.registers.proofs.Table.{entered-by}
 use Rattle.cyclic.proofs.Methods.{width-3}
 use Rattle.cyclic.proofs.method3.Cyclic3.enter.Statement.{statement}
 use Rattle.cyclic.proofs.method3.Cyclic3.enter.Tie as tie

@@ -4,7 +4,7 @@ use Rattle.bits.specs.Bytes.{lowBits, value}
 use Rattle.division.specs.Division.{divide}
 use Rattle.division.specs.Generators.{ccitt16}
 use Rattle.cyclic.specs.Check.{method3}
-use Rattle.cyclic.specs.Register.{tableOf}
+use Rattle.registers.specs.Register.{tableOf}
 use Rattle.cyclic.proofs.method3.Cyclic3.table.Statement.{statement}
 use Rattle.cyclic.proofs.method3.Cyclic3.table.Tie as tie
 

@@ -4,7 +4,7 @@ use Rattle.bits.specs.Bytes.{lowBits, value}
 use Rattle.division.specs.Division.{divide}
 use Rattle.division.specs.Generators.{ibm16}
 use Rattle.cyclic.specs.Check.{method4}
-use Rattle.cyclic.specs.Register.{tableOf}
+use Rattle.registers.specs.Register.{tableOf}
 use Rattle.cyclic.proofs.method4.Cyclic4.table.Statement.{statement}
 use Rattle.cyclic.proofs.method4.Cyclic4.table.Tie as tie
 

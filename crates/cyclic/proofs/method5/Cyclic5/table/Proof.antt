@@ -4,7 +4,7 @@ use Rattle.bits.specs.Bytes.{lowBits, value}
 use Rattle.division.specs.Division.{divide}
 use Rattle.division.specs.Generators.{ccitt16}
 use Rattle.cyclic.specs.Check.{method5}
-use Rattle.cyclic.specs.Register.{tableOf}
+use Rattle.registers.specs.Register.{tableOf}
 use Rattle.cyclic.proofs.method5.Cyclic5.table.Statement.{statement}
 use Rattle.cyclic.proofs.method5.Cyclic5.table.Tie as tie
 

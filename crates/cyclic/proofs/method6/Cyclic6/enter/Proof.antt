@@ -1,7 +1,7 @@
 -- `Cyclic6::enter` meets its contract: bytes that enter through the generator's table enter bit by bit. Assumes nothing.
 use borrow.Author.Needs.{needs}
 use Rattle.cyclic.specs.Check.{method6}
-use Rattle.cyclic.proofs.Table.{entered-by}
+use Rattle.registers.proofs.Table.{entered-by}
 use Rattle.cyclic.proofs.Methods.{width-6}
 use Rattle.cyclic.proofs.method6.Cyclic6.enter.Statement.{statement}
 use Rattle.cyclic.proofs.method6.Cyclic6.enter.Tie as tie

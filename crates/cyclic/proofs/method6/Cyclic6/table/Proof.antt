@@ -4,7 +4,7 @@ use Rattle.bits.specs.Bytes.{lowBits, value}
 use Rattle.division.specs.Division.{divide}
 use Rattle.division.specs.Generators.{ieee32}
 use Rattle.cyclic.specs.Check.{method6}
-use Rattle.cyclic.specs.Register.{tableOf}
+use Rattle.registers.specs.Register.{tableOf}
 use Rattle.cyclic.proofs.method6.Cyclic6.table.Statement.{statement}
 use Rattle.cyclic.proofs.method6.Cyclic6.table.Tie as tie
 

@@ -1,0 +1,87 @@
+//! Every burst at every place of short blocks and frames: none is accepted
+//! with the same framing.
+
+use crate::counts::Counts;
+use crate::peer::bits::flip;
+use crate::peer::signs::Link;
+use crate::random::Random;
+use crate::specimen::Specimen;
+
+/// Patterns of method 6 that are longer than 16 bits and drawn at random.
+const DRAWN: u64 = 400_000;
+
+pub fn run() {
+    println!("bursts in short blocks and frames");
+    Counts::print_head();
+    let even = |method| Link { method, odd: false };
+    let odd = Link {
+        method: 2,
+        odd: true,
+    };
+    let plain = [0x01, 0x37, 0x16, 0x02, 0x52, 0x31, 0x03];
+    let clear = [0x10, 0x02, 0x41, 0x10, 0x10, 0x42, 0x10, 0x17];
+    every("matrix, even", &Specimen::block(even(2), &plain), 9);
+    every("matrix, odd", &Specimen::block(odd, &plain), 9);
+    every(
+        "method 3, header and text",
+        &Specimen::block(even(3), &plain),
+        16,
+    );
+    every(
+        "method 3, clear text",
+        &Specimen::block(even(3), &clear),
+        16,
+    );
+    every(
+        "method 4, header and text",
+        &Specimen::block(even(4), &plain),
+        16,
+    );
+    every(
+        "method 4, clear text",
+        &Specimen::block(even(4), &clear),
+        16,
+    );
+    every("method 5", &Specimen::frame(5, &[0x41, 0x7E]), 16);
+    every("method 6", &Specimen::frame(6, &[0x41, 0x7E]), 16);
+    drawn("method 6", &Specimen::frame(6, &[0x41, 0x7E, 0x00]), 32);
+}
+
+/// Every burst of at most `width` bits at every place. A pattern is odd: its
+/// low bit stands for the first bit of the burst, so no burst comes twice.
+fn every(name: &str, specimen: &Specimen, width: usize) {
+    let mut counts = Counts::default();
+    let bits = specimen.checked.len();
+    for start in 0..bits {
+        let room = width.min(bits - start);
+        for pattern in (1..1_u64 << room).step_by(2) {
+            try_burst(specimen, start, pattern, &mut counts);
+        }
+    }
+    counts.print(&format!("{name}, every pattern up to {width}"));
+    assert_eq!(counts.same_framing, 0, "{specimen:?}");
+}
+
+/// Bursts of 17 to `width` bits, drawn at random.
+fn drawn(name: &str, specimen: &Specimen, width: usize) {
+    let mut counts = Counts::default();
+    let mut random = Random::of_seed(1989);
+    for _ in 0..DRAWN {
+        let length = 17 + random.below(width - 16);
+        let start = random.below(specimen.checked.len() - length + 1);
+        let inner = random.next() & ((1 << length) - 1);
+        try_burst(specimen, start, inner | 1 | 1 << (length - 1), &mut counts);
+    }
+    counts.print(&format!("{name}, drawn patterns of 17 to {width}"));
+    assert_eq!(counts.same_framing, 0, "{specimen:?}");
+}
+
+fn try_burst(specimen: &Specimen, start: usize, pattern: u64, counts: &mut Counts) {
+    let mut line = specimen.line.clone();
+    let mut out = [0; 64];
+    for offset in (0..64).filter(|offset| pattern >> offset & 1 == 1) {
+        flip(&mut line, specimen.checked[start + offset]);
+    }
+    let accepted = specimen.reader.answer(&line, &mut out) == 0;
+    counts.note(accepted, accepted && specimen.same_framing(&line));
+}

@@ -1,0 +1,105 @@
+//! Damage that turns one sign into another: each byte of each line is
+//! replaced by every other value.
+
+use crate::counts::Counts;
+use crate::peer::signs::Link;
+use crate::property::may_differ;
+use crate::specimen::Specimen;
+
+/// Characters of blocks that every method carries, then of clear blocks.
+const PLAIN: [&[u8]; 5] = [
+    &[0x01, 0x48, 0x45, 0x03],
+    &[0x02, 0x54, 0x45, 0x58, 0x54, 0x17],
+    &[0x01, 0x37, 0x42, 0x02, 0x52, 0x20, 0x31, 0x32, 0x1F],
+    &[0x01, 0x16, 0x37, 0x16, 0x02, 0x16, 0x52, 0x16, 0x16, 0x03],
+    &[0x02, 0x17],
+];
+const CLEAR: [&[u8]; 3] = [
+    &[
+        0x10, 0x02, 0x41, 0x03, 0x10, 0x10, 0x16, 0x10, 0x16, 0xFF, 0x10, 0x03,
+    ],
+    &[
+        0x01, 0x37, 0x16, 0x42, 0x10, 0x02, 0x01, 0x02, 0x10, 0x10, 0x10, 0x17,
+    ],
+    &[0x10, 0x02, 0x10, 0x1F],
+];
+const CONTENTS: [&[u8]; 3] = [
+    &[0x00],
+    &[0xFF, 0x7E, 0x41],
+    &[0x1F, 0xF8, 0x00, 0x3F, 0xFC],
+];
+
+/// The lines and frames that are damaged.
+pub fn specimens() -> Vec<Specimen> {
+    let mut specimens = Vec::new();
+    for (method, odd) in [
+        (1, false),
+        (1, true),
+        (2, false),
+        (2, true),
+        (3, false),
+        (4, false),
+    ] {
+        let link = Link { method, odd };
+        specimens.extend(PLAIN.map(|characters| Specimen::block(link, characters)));
+        if !link.seven_bits() {
+            specimens.extend(CLEAR.map(|characters| Specimen::block(link, characters)));
+        }
+    }
+    for method in [5, 6] {
+        specimens.extend(CONTENTS.map(|content| Specimen::frame(method, content)));
+    }
+    specimens
+}
+
+pub fn run() {
+    let specimens = specimens();
+    println!(
+        "one byte replaced by every other value, {} lines",
+        specimens.len()
+    );
+    Counts::print_head();
+    for method in 1..=6 {
+        let mut counts = Counts::default();
+        for specimen in specimens.iter().filter(|one| one.reader.method() == method) {
+            counts.add(substitute(specimen));
+        }
+        assert!(counts.tried > 0 && counts.tried > counts.same_framing);
+        counts.print(&format!("method {method}"));
+    }
+}
+
+/// Every substitution of one line: the library answers as the peer does, and
+/// what it accepts with the same framing keeps the third property.
+fn substitute(specimen: &Specimen) -> Counts {
+    let mut counts = Counts::default();
+    let mut line = specimen.line.clone();
+    let mut out = vec![0; line.len()];
+    for place in 0..line.len() {
+        for change in 1..=255 {
+            line[place] = specimen.line[place] ^ change;
+            let answer = specimen.reader.answer(&line, &mut out);
+            assert_eq!(
+                answer,
+                specimen.reader.peer_answer(&line),
+                "{specimen:?} {line:02X?}"
+            );
+            let accepted = answer == 0;
+            let same = accepted && specimen.same_framing(&line) && unequal(specimen, &line);
+            counts.note(accepted, same);
+        }
+        line[place] = specimen.line[place];
+    }
+    counts
+}
+
+/// Whether an accepted line of the same framing is unequal in a told bit; it
+/// then keeps the third property.
+fn unequal(specimen: &Specimen, line: &[u8]) -> bool {
+    let differing = specimen
+        .differing(line)
+        .expect("one framing: checked bits alone differ");
+    let method = specimen.reader.method();
+    assert!(may_differ(method, &differing), "{specimen:?} {line:02X?}");
+    !differing.is_empty()
+}

@@ -1,0 +1,94 @@
+//! What was tried: counts by call, by answer number and by method.
+
+/// The public calls that answer with a number.
+#[derive(Clone, Copy, PartialEq, Eq, Debug)]
+pub enum Call {
+    ReadBlock,
+    WriteBlock,
+    ReadFrame,
+    WriteFrame,
+    Receive,
+}
+
+const CALLS: [(Call, &str, &[usize]); 5] = [
+    (Call::ReadBlock, "read a block", &[1, 2, 3, 4]),
+    (Call::WriteBlock, "write a block", &[1, 2, 3, 4]),
+    (Call::ReadFrame, "read a frame", &[5, 6]),
+    (Call::WriteFrame, "write a frame", &[5, 6]),
+    (Call::Receive, "judge a number", &[]),
+];
+
+/// Every number that document 01 gives to a question.
+const QUESTIONS: [std::ops::RangeInclusive<usize>; 5] = [1..=6, 11..=19, 21..=23, 31..=38, 41..=43];
+
+const NUMBERS: usize = 64;
+
+/// Methods 1 to 6, and 0 for every other code.
+const METHODS: usize = 7;
+
+#[derive(Default)]
+pub struct Tally {
+    counts: Vec<[[u64; METHODS]; NUMBERS]>,
+    pub checks: u64,
+    pub round_trips: u64,
+    pub typed: u64,
+}
+
+impl Tally {
+    pub fn new() -> Tally {
+        Tally {
+            counts: vec![[[0; METHODS]; NUMBERS]; CALLS.len()],
+            ..Tally::default()
+        }
+    }
+
+    pub fn note(&mut self, call: Call, number: u32, method: u8) {
+        let method = usize::from(method);
+        let column = if method < METHODS { method } else { 0 };
+        self.counts[call as usize][number as usize % NUMBERS][column] += 1;
+    }
+
+    pub fn total(&self) -> u64 {
+        self.counts.iter().flatten().flatten().sum()
+    }
+
+    /// The numbers of document 01 that no call answered.
+    pub fn missing(&self) -> Vec<usize> {
+        let met = |number: &usize| {
+            self.counts
+                .iter()
+                .any(|call| call[*number].iter().any(|n| *n > 0))
+        };
+        QUESTIONS
+            .iter()
+            .cloned()
+            .flatten()
+            .filter(|number| !met(number))
+            .collect()
+    }
+
+    /// Prints a table for each call: a line for each answer number met, a
+    /// column for each method.
+    pub fn print(&self) {
+        for (call, name, methods) in CALLS {
+            let head: String = methods
+                .iter()
+                .map(|m| format!("{:>12}", format!("method {m}")))
+                .collect();
+            println!("{name:<16}{:>12}{head}", "all");
+            for (number, counts) in self.counts[call as usize].iter().enumerate() {
+                let all: u64 = counts.iter().sum();
+                if all > 0 {
+                    let each: String = methods
+                        .iter()
+                        .map(|m| format!("{:>12}", counts[*m]))
+                        .collect();
+                    println!("{number:>16}{all:>12}{each}");
+                }
+            }
+        }
+        println!("check values     {:>11}", self.checks);
+        println!("round trips      {:>11}", self.round_trips);
+        println!("by typed calls   {:>11}", self.typed);
+    }
+}
