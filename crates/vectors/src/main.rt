@@ -1,5 +1,6 @@
-// Runs the published check values and the checks of document 01's rows 11 to 13 through the calls, and prints what they give.
-// The file `stdout` holds what the papers say.
+// Runs the published check values and document 01's rows 11 to 13 and 15 to 17 through the calls, and prints what they answer, a
+// row a line. The file `stdout` holds what the papers say.
+use block::Method;
 use cyclic::Cyclic3;
 use cyclic::Cyclic4;
 use cyclic::Cyclic5;
@@ -8,6 +9,9 @@ use libc::STDOUT_FILENO;
 ghost use mathlib.Core.Path.{_≡_};
 ghost use Rattle.bits.specs.Bytes.{lowBits, bitsOf};
 ghost use Rattle.cyclic.specs.Check.{checkBits, method4};
+
+mod print;
+mod rows;
 
 fn print_check(label: &[u8], check: u64, digits: usize) {
     io::write_all(STDOUT_FILENO, label);
@@ -91,4 +95,12 @@ fn main() {
         b"row 13, check of FF, method 6:",
         Cyclic6::check_of(b"\xff"),
     );
+    rows::row_13();
+    rows::row_15();
+    rows::row_16_taken();
+    rows::row_16_refused();
+    rows::row_17(b"row 17, empty line, method 1:", Method::Parity);
+    rows::row_17(b"row 17, empty line, method 2:", Method::Matrix);
+    rows::row_17(b"row 17, empty line, method 3:", Method::Cyclic);
+    rows::row_17(b"row 17, empty line, method 4:", Method::CyclicAlternative);
 }

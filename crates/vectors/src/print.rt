@@ -1,0 +1,63 @@
+// The answers of the calls, printed: what was written or taken, or `refused` with document 01's number and value.
+use answers::frame_write_number;
+use answers::frame_write_value;
+use answers::read_number;
+use answers::read_value;
+use answers::write_number;
+use answers::write_value;
+use block::BlockRead;
+use block::BlockWritten;
+use frame::FrameWritten;
+use libc::STDOUT_FILENO;
+
+fn print_number(n: usize) {
+    io::write_all(STDOUT_FILENO, b" ");
+    io::print_decimal(STDOUT_FILENO, n as u64);
+}
+
+fn print_refused(number: usize, value: usize) {
+    io::write_all(STDOUT_FILENO, b" refused");
+    print_number(number);
+    print_number(value);
+}
+
+// The length of the line.
+pub fn print_written(label: &[u8], w: BlockWritten) {
+    io::write_all(STDOUT_FILENO, label);
+    match w {
+        BlockWritten::Written(n) => {
+            io::write_all(STDOUT_FILENO, b" written");
+            print_number(n);
+        }
+        BlockWritten::Refused(r) => print_refused(write_number(r), write_value(r)),
+    }
+    io::write_all(STDOUT_FILENO, b"\n");
+}
+
+// The lengths of header and text, and the counted number.
+pub fn print_read(label: &[u8], r: BlockRead) {
+    io::write_all(STDOUT_FILENO, label);
+    match r {
+        BlockRead::Taken(b) => {
+            io::write_all(STDOUT_FILENO, b" taken");
+            print_number(b.header);
+            print_number(b.text);
+            print_number(b.counted);
+        }
+        BlockRead::Refused(r) => print_refused(read_number(r), read_value(r)),
+    }
+    io::write_all(STDOUT_FILENO, b"\n");
+}
+
+// The number of bits.
+pub fn print_frame(label: &[u8], w: FrameWritten) {
+    io::write_all(STDOUT_FILENO, label);
+    match w {
+        FrameWritten::Written(bits) => {
+            io::write_all(STDOUT_FILENO, b" bits");
+            print_number(bits);
+        }
+        FrameWritten::Refused(r) => print_refused(frame_write_number(r), frame_write_value(r)),
+    }
+    io::write_all(STDOUT_FILENO, b"\n");
+}
