@@ -27,6 +27,7 @@ mod property;
 mod random;
 mod specimen;
 mod substitution;
+mod syndromes;
 
 use std::process::ExitCode;
 use std::time::Duration;
@@ -44,6 +45,7 @@ fn main() -> ExitCode {
     };
     substitution::run();
     burst::run();
+    syndromes::run();
     if arguments.all {
         pairs::all(arguments.threads);
     } else {
