@@ -1,13 +1,8 @@
 // Document 01's numbers for the answers of the block and frame calls, for programs and the C library: every answer has its number.
-use block::ETB;
-use block::ETX;
-use block::EndSign;
 use block::ReadRefusal;
 use block::Shape;
-use block::US;
 use block::WriteRefusal;
 ghost use mathlib.Core.Path.{_≡_};
-ghost use Rattle.block.specs.Signs.{endByte};
 ghost use Rattle.block.specs.Answers.{shapeNumber, readNumber, readValue, writeNumber, writeValue};
 
 mod frames;
@@ -26,16 +21,6 @@ pub fn shape_number(s: Shape) -> usize
         Shape::HeaderText => 3,
         Shape::ClearText => 4,
         Shape::HeaderClearText => 5,
-    }
-}
-
-pub fn end_byte(e: EndSign) -> u8
-    ensures { λ r. ⌜ r ≡ endByte e ⌝ }
-{
-    match e {
-        EndSign::Etx => ETX,
-        EndSign::Etb => ETB,
-        EndSign::Us => US,
     }
 }
 

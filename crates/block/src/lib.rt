@@ -134,6 +134,8 @@ pub use signs::SOH;
 pub use signs::STX;
 pub use signs::SYN;
 pub use signs::US;
+pub use signs::character;
+pub use signs::end_byte;
 pub use signs::is_seven;
 pub use signs::parity_right;
 pub use signs::with_parity;

@@ -1,9 +1,11 @@
-// The seven signs, and parity.
+// The seven signs, the character of a byte, and parity.
+use crate::EndSign;
 use crate::Method;
 use crate::Parity;
 ghost use mathlib.Core.Path.{_≡_};
 ghost use Rattle.bits.specs.Strings.{parity};
 ghost use Rattle.bits.specs.Bytes.{lowBits};
+ghost use Rattle.block.specs.Signs.{endByte};
 ghost use Rattle.block.specs.Characters as rule;
 
 pub const SOH: u8 = 0x01;
@@ -19,6 +21,23 @@ pub const SYN: u8 = 0x16;
 pub const ETB: u8 = 0x17;
 
 pub const US: u8 = 0x1F;
+
+pub fn end_byte(e: EndSign) -> u8
+    ensures { λ r. ⌜ r ≡ endByte e ⌝ }
+{
+    match e {
+        EndSign::Etx => ETX,
+        EndSign::Etb => ETB,
+        EndSign::Us => US,
+    }
+}
+
+// The character of a byte on the line.
+pub fn character(seven: bool, b: u8) -> u8
+    ensures { λ r. ⌜ r ≡ rule.character seven b ⌝ }
+{
+    if seven { b % 128 } else { b }
+}
 
 // Methods 1 and 2 carry seven-bit characters.
 pub fn is_seven(m: Method) -> bool

@@ -10,7 +10,7 @@ use lib.Seq.{drop-cons, sets}
 use Rattle.bits.specs.Differences.{consIf}
 use Rattle.block.specs.Characters.{character}
 use Rattle.block.proofs.Lists.{sets-append}
-use Rattle.block_reader.specs.Framings.{isKept, nextBehind, keptBytes}
+use Rattle.block_framing.specs.Framings.{isKept, nextBehind, keptBytes}
 
 pub consIf-append : (t : Bool) (b : ℕ) (bs : List ℕ) → consIf t b bs ≡ consIf t b [] ++ bs
 consIf-append true b bs = refl

@@ -1,11 +1,4 @@
-pub mod FramingCases
-pub mod FramingLaws
 pub mod HandedOut
-pub mod HeaderWalk
 pub mod Kept
-pub mod KeptBySign
 pub mod ReadBlock
-pub mod Reading
 pub mod ReceivedChecks
-pub mod TextWalk
-pub mod Turns

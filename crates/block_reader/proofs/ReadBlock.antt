@@ -27,12 +27,12 @@ use Rattle.block.specs.Read as rule
 use Rattle.block.specs.Answers.{block, shapeNumber, readNumber, readValue, ofReadAnswer}
 use Rattle.block.proofs.Lists.{map-append}
 use Rattle.block.proofs.Passed.{Passed, passed}
-use Rattle.block_reader.specs.declared.Framing.{Framing}
-use Rattle.block_reader.specs.declared.WalkEnd.{WalkEnd}
-use Rattle.block_reader.specs.declared.WalkEnd.the-variants as code
-use Rattle.block_reader.specs.Framings.{noTally, tallied, framingAt, framed, refusal, ofWalk, framedAnswer, headerIn, textIn, countedIn, Ordered, Segmented}
-use Rattle.block_reader.proofs.FramingLaws.{segmented, Tallied, tally-counts, framing-shape}
-use Rattle.block_reader.proofs.Reading.{Carries, framing-carries}
+use Rattle.block_framing.specs.declared.Framing.{Framing}
+use Rattle.block_framing.specs.declared.WalkEnd.{WalkEnd}
+use Rattle.block_framing.specs.declared.WalkEnd.the-variants as code
+use Rattle.block_framing.specs.Framings.{noTally, tallied, framingAt, framed, refusal, ofWalk, framedAnswer, headerIn, textIn, countedIn, Ordered, Segmented}
+use Rattle.block_framing.proofs.FramingLaws.{segmented, Tallied, tally-counts, framing-shape}
+use Rattle.block_framing.proofs.Reading.{Carries, framing-carries}
 
 length-sift : (is : Mark → Bool) (ks : List Mark) (line : List ℕ) → length (sift is ks line) ≤ length line
 length-sift is [] line = omega arith

@@ -22,9 +22,9 @@ use Rattle.block.specs.Characters.{withParity}
 use Rattle.block.specs.Check.{checkOf, xorAll}
 use Rattle.block.specs.Write.{isClear}
 use Rattle.block.proofs.CheckLaws.{withParity-lt, matrix-character}
-use Rattle.block_reader.specs.declared.Framing.{Framing}
-use Rattle.block_reader.specs.Framings.{keptBytes, headerIn, textIn, countedIn, Ordered}
-use Rattle.block_reader.proofs.Reading.{part-slice}
+use Rattle.block_framing.specs.declared.Framing.{Framing}
+use Rattle.block_framing.specs.Framings.{keptBytes, headerIn, textIn, countedIn, Ordered}
+use Rattle.block_framing.proofs.Reading.{part-slice}
 
 -- ---- the counted bytes, segment by segment
 

@@ -1,5 +1,4 @@
 // The checks over the counted bytes of a framed line.
-use crate::Framing;
 use crate::segments::enter_part;
 use crate::segments::sum_part;
 use block::Method;
@@ -7,6 +6,7 @@ use block::Parity;
 use block::is_clear;
 use block::sum_slice;
 use block::with_parity;
+use block_framing::Framing;
 use cyclic::Cyclic3;
 use cyclic::Cyclic4;
 use registers::enter_byte16;
@@ -22,7 +22,7 @@ ghost use Rattle.cyclic.specs.Check.{checkBits, method3, method4};
 ghost use Rattle.registers.specs.Register.{enterAllByTable};
 ghost use Rattle.block.specs.Characters.{isSeven};
 ghost use Rattle.block.specs.Check.{checkOf, checkLength, xorAll};
-ghost use Rattle.block_reader.specs.Framings.{countedIn, Ordered};
+ghost use Rattle.block_framing.specs.Framings.{countedIn, Ordered};
 
 // The counted bytes of a line, entered into a register.
 fn enter_counted(table: &[u16; 256], start: u16, f: Framing, line: &[u8]) -> u16

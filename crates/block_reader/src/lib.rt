@@ -1,45 +1,8 @@
 // Reading a block (document 01, part 3): `read_block` judges a line by the rules of crate block and hands out header and text. It
 // takes every input. A refusal carries document 01's number and leaves every byte of the output; a success changes only the
 // bytes of header and text.
-use block::EndSign;
-use block::ReadRefusal;
-use block::Shape;
-
-// The marks so far, counted up: the place of the first inner start (0 where there was none), and the numbers of header bytes,
-// text bytes and counted bytes.
-pub struct Tally {
-    pub inner: usize,
-    pub header: usize,
-    pub text: usize,
-    pub counted: usize,
-}
-
-// What the walk hands on: shape and end sign; the places of the header (from `head` up to `inner`), of the inner start (up to
-// `body`) and of the text (up to `tail`); the lengths of header and text without fill; the counted number; and the place after
-// the end sign.
-pub struct Framing {
-    pub shape: Shape,
-    pub end: EndSign,
-    pub head: usize,
-    pub inner: usize,
-    pub body: usize,
-    pub tail: usize,
-    pub header: usize,
-    pub text: usize,
-    pub counted: usize,
-    pub after: usize,
-}
-
-// How a walk ended.
-pub enum WalkEnd {
-    Found(Framing),
-    Refused(ReadRefusal),
-}
-
 mod check;
-mod judge;
 mod read;
 mod segments;
-mod walk;
 
 pub use read::read_block;

@@ -1,7 +1,7 @@
 // Loops over a segment of a framed line: what is neither fill nor the first DLE of a pair enters a check or goes to the output.
-use crate::judge::character;
 use block::DLE;
 use block::SYN;
+use block::character;
 use registers::enter_byte16;
 ghost use mathlib.Core.Path.{_≡_};
 ghost use mathlib.Core.Bool.{true, false};
@@ -13,7 +13,7 @@ ghost use Rattle.bits.specs.Differences.{consIf};
 ghost use Rattle.registers.specs.Register.{enterAllByTable};
 ghost use Rattle.block.specs.Characters as rule;
 ghost use Rattle.block.specs.Check.{xorAll};
-ghost use Rattle.block_reader.specs.Framings.{isKept, nextBehind, keptBytes};
+ghost use Rattle.block_framing.specs.Framings.{isKept, nextBehind, keptBytes};
 
 fn is_kept(clear: bool, seven: bool, behind: bool, b: u8) -> bool
     ensures { λ r. ⌜ r ≡ isKept clear seven behind b ⌝ }

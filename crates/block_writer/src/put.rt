@@ -1,13 +1,11 @@
 // Bytes stored in the output one after the other: characters, clear text, signs.
 use block::DLE;
-use block::ETB;
-use block::ETX;
 use block::EndSign;
 use block::Parity;
 use block::SOH;
 use block::STX;
 use block::Shape;
-use block::US;
+use block::end_byte;
 use block::with_parity;
 ghost use mathlib.Core.Path.{_≡_};
 ghost use mathlib.Core.Bool.{false, _&&_};
@@ -19,16 +17,6 @@ ghost use Rattle.block.specs.Signs as signs;
 ghost use Rattle.block.specs.Characters as characters;
 ghost use Rattle.block.specs.Write as rule;
 ghost use Rattle.block_writer.specs.Writing.{bodyBytes, Stored};
-
-pub fn end_byte(e: EndSign) -> u8
-    ensures { λ r. ⌜ r ≡ signs.endByte e ⌝ }
-{
-    match e {
-        EndSign::Etx => ETX,
-        EndSign::Etb => ETB,
-        EndSign::Us => US,
-    }
-}
 
 // The byte by which a character is sent.
 fn sent(seven: bool, p: Parity, b: u8) -> u8

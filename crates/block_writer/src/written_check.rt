@@ -1,9 +1,9 @@
 // The checks over the parts of a block to be written.
-use crate::put::end_byte;
 use block::DLE;
 use block::EndSign;
 use block::STX;
 use block::Shape;
+use block::end_byte;
 use block::sum_slice;
 use cyclic::Cyclic3;
 use cyclic::Cyclic4;

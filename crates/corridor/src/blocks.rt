@@ -33,7 +33,7 @@ fn parts_of(b: Block) -> [usize; 5]
     let end = b.end;
     [
         answers::shape_number(shape),
-        answers::end_byte(end) as usize,
+        block::end_byte(end) as usize,
         b.header,
         b.text,
         b.counted,

@@ -1,10 +1,10 @@
 // What was read beside what was written.
 use crate::ReadBack;
-use answers::end_byte;
 use answers::shape_number;
 use block::Block;
 use block::EndSign;
 use block::Shape;
+use block::end_byte;
 use check::same;
 ghost use mathlib.Core.Path.{_≡_};
 ghost use mathlib.Core.Bool.{cond};

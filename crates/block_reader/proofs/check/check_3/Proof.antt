@@ -4,7 +4,7 @@ use lib.Dec.{lit<}
 use Rattle.cyclic.specs.Check.{method3}
 use Rattle.cyclic.proofs.Methods.{width-3}
 use Rattle.block.proofs.CheckLaws.{start-3, register-check}
-use Rattle.block_reader.specs.Framings.{countedIn}
+use Rattle.block_framing.specs.Framings.{countedIn}
 use borrow.Author.Needs.{needs}
 use Rattle.block_reader.proofs.check.check_3.Statement.{statement}
 use Rattle.block_reader.proofs.check.check_3.Tie as tie

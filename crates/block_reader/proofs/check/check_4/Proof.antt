@@ -4,7 +4,7 @@ use lib.Dec.{lit<}
 use Rattle.cyclic.specs.Check.{method4}
 use Rattle.cyclic.proofs.Methods.{width-4}
 use Rattle.block.proofs.CheckLaws.{start-4, register-check}
-use Rattle.block_reader.specs.Framings.{countedIn}
+use Rattle.block_framing.specs.Framings.{countedIn}
 use borrow.Author.Needs.{needs}
 use Rattle.block_reader.proofs.check.check_4.Statement.{statement}
 use Rattle.block_reader.proofs.check.check_4.Tie as tie

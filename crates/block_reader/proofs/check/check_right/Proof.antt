@@ -7,7 +7,7 @@ use lib.ListN.{drop}
 use Rattle.bits.specs.Strings.{same}
 use Rattle.bits.specs.Bytes.{bitsOf}
 use Rattle.block.specs.Check.{checkLength, checkOf}
-use Rattle.block_reader.specs.Framings.{countedIn}
+use Rattle.block_framing.specs.Framings.{countedIn}
 use Rattle.block_reader.proofs.ReceivedChecks.{no-check, matrix-right}
 use borrow.Author.Needs.{needs}
 use Rattle.block_reader.proofs.check.check_right.Statement.{statement}

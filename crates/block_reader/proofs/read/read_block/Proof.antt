@@ -5,7 +5,7 @@ use lib.ListN.{length}
 use borrow.Author.Tests.{not-true, not-false}
 use Rattle.block.specs.Read.{readOutput}
 use Rattle.block.specs.Answers.{ofReadAnswer}
-use Rattle.block_reader.specs.Framings.{ofWalk, ofUnframed}
+use Rattle.block_framing.specs.Framings.{ofWalk, ofUnframed}
 use Rattle.block_reader.proofs.ReadBlock.{found-framing, ordered, closed, lengths-small, kept-length, wrong-check, output-short, is-taken, taken-numbers, taken-output, no-framing, kept-output}
 use borrow.Author.Needs.{needs}
 use Rattle.block_reader.proofs.read.read_block.Statement.{statement}

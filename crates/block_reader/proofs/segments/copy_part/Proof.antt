@@ -3,7 +3,7 @@ use Prim.Native.Nat.{_-_, _+_, _≤_}
 use mathlib.Core.Bool.{false}
 use native.Mathlib.Omega.{arith}
 use lib.ListN.{length}
-use Rattle.block_reader.specs.Framings.{keptBytes}
+use Rattle.block_framing.specs.Framings.{keptBytes}
 use Rattle.block_reader.proofs.Kept.{Copying, copying, room, copied, stored}
 use borrow.Author.Needs.{needs}
 use Rattle.block_reader.proofs.segments.copy_part.Statement.{statement}

@@ -1,5 +1,5 @@
 -- `is_kept` meets its contract. Assumes nothing.
-use Rattle.block_reader.specs.Framings.{isKept}
+use Rattle.block_framing.specs.Framings.{isKept}
 use borrow.Author.Needs.{needs}
 use Rattle.block_reader.proofs.segments.is_kept.Statement.{statement}
 use Rattle.block_reader.proofs.segments.is_kept.Tie as tie

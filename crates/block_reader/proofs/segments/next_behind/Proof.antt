@@ -1,5 +1,5 @@
 -- `next_behind` meets its contract. Assumes nothing.
-use Rattle.block_reader.specs.Framings.{nextBehind}
+use Rattle.block_framing.specs.Framings.{nextBehind}
 use Rattle.block_reader.proofs.segments.next_behind.Statement.{statement}
 use Rattle.block_reader.proofs.segments.next_behind.Tie as tie
 

@@ -1,0 +1,259 @@
+-- Reading, question by question: what each answer on the way leaves to the rule. Assumes nothing.
+use mathlib.Core.Path.{_≡_, refl, sym, ap, subst, _∙_}
+use Prim.Native.Nat.{ℕ, zero, suc, _+_, _-_, _≤_, _<_}
+use native.Mathlib.Nat.{add-zero, zero-add}
+use native.Mathlib.Numerals.{add-one}
+use native.Mathlib.Omega.{arith}
+use mathlib.Core.Bool.{Bool, true, false, cond}
+use mathlib.Core.List.{List, [], _∷_}
+use lib.Dec.{eqb, leb}
+use lib.ListN.{length, getD, take, drop, drop-of-length-le}
+use lib.Seq.{drop-cons, slice}
+use borrow.Author.Tests.{eq-eqb, ne-eqb, le-leb, lt-leb}
+use Rattle.block.specs.declared.Method.{Method}
+use Rattle.block.specs.declared.ReadRefusal.{ReadRefusal}
+use Rattle.block.specs.declared.Parity.{Parity}
+use Rattle.block.specs.declared.Shape.{Shape}
+use Rattle.block.specs.declared.EndSign.{EndSign}
+use Rattle.block.specs.declared.Mark.{Mark}
+use Rattle.block.specs.declared.Field.{Field}
+use Rattle.block.specs.declared.Field.the-variants.{Start, StartDle, Header, HeaderDle, Text, Clear, ClearDle}
+use Rattle.block.specs.Characters.{isSeven, parityRight}
+use Rattle.block.specs.Walk.{Stop, ended, refused, Walked, walk}
+use Rattle.block.specs.Marks.{counted}
+use Rattle.block.specs.Check.{checkLength}
+use Rattle.block.specs.Read.{Framed, found, unframed, askParities, askEnd, askWalk}
+use Rattle.block.specs.Read as rule
+use Rattle.block.specs.Answers.{readNumber, readValue}
+use Rattle.block_framing.specs.declared.WalkEnd.{WalkEnd}
+use Rattle.block_framing.specs.declared.WalkEnd.the-variants as code
+use Rattle.block_framing.specs.declared.Tally.{Tally}
+use Rattle.block_framing.specs.declared.Framing.{Framing}
+use Rattle.block_framing.specs.Framings.{noTally, addMark, tallied, segments, framingAt, framed, refusal, ofWalk, stopped, answerAfter, walkAnswer, framedAnswer, wrongFrom}
+use Rattle.block_framing.proofs.FramingLaws.{tally-counts, marks-within}
+
+-- ---- a part of a slice
+
+pub part-slice : (f t : ℕ) (l : List ℕ) → f ≤ t → take (t - f) (drop f l) ≡ slice f t l
+part-slice zero t l h = let e : t - 0 ≡ t = omega arith in ap (λ n. take n l) e
+part-slice (suc f) zero l h = absurd (omega arith)
+part-slice (suc f) (suc t) [] h = nil (suc t - suc f)
+  where
+    nil : (n : ℕ) → _≡_ {A = List ℕ} (take n []) []
+    nil zero = refl
+    nil (suc n) = refl
+part-slice (suc f) (suc t) (x ∷ l) h =
+    let e : suc t - suc f ≡ t - f = omega arith in
+    ap (λ n. take n (drop f l)) e ∙ part-slice f t l (omega arith)
+
+-- ---- 12: the first wrong parity
+
+pub record Searching (p : Parity) (line : List ℕ) (i : ℕ) : Type 0 where
+  pub within : i ≤ length line
+  pub rest : wrongFrom p i (drop i line) ≡ wrongFrom p 0 line
+
+module _ {p : Parity} {line : List ℕ} {i : ℕ} (w : Searching p line i) where
+  module _ (h : i < length line) {right : Bool} (r : right ≡ parityRight p (getD line i 0)) where
+    at-byte : cond right (wrongFrom p (i + 1) (drop (i + 1) line)) i ≡ wrongFrom p 0 line
+    at-byte =
+        ap (λ t. cond t (wrongFrom p (i + 1) (drop (i + 1) line)) i) r
+        ∙ ap (λ n. cond (parityRight p (getD line i 0)) (wrongFrom p (i + 1) (drop n line)) i) (add-one i)
+        ∙ sym (ap (wrongFrom p i) (drop-cons line i 0 h)) ∙ w .rest
+
+    pub search-on : right ≡ true → Searching p line (i + 1)
+    search-on e = record { within = omega arith; rest = sym (ap (λ t. cond t (wrongFrom p (i + 1) (drop (i + 1) line)) i) e) ∙ at-byte }
+
+    pub search-stops : right ≡ false → i ≡ wrongFrom p 0 line
+    search-stops e = sym (ap (λ t. cond t (wrongFrom p (i + 1) (drop (i + 1) line)) i) e) ∙ at-byte
+
+  pub search-ends : length line ≤ i → i ≡ wrongFrom p 0 line
+  search-ends h = sym (ap (wrongFrom p i) (drop-of-length-le line h)) ∙ w .rest
+
+wrong-at-least : (p : Parity) (at : ℕ) (l : List ℕ) → at ≤ wrongFrom p at l
+wrong-at-least p at [] = omega arith
+wrong-at-least p at (b ∷ l) = go (parityRight p b) (wrong-at-least p (at + 1) l)
+  where
+    go : (t : Bool) → at + 1 ≤ wrongFrom p (at + 1) l → at ≤ cond t (wrongFrom p (at + 1) l) at
+    go true h = omega arith
+    go false h = omega arith
+
+pub parities-wrong : (p : Parity) (l : List ℕ) (at : ℕ) (next : Framed) → wrongFrom p at l < at + length l → askParities p l at next ≡ unframed 12 (wrongFrom p at l)
+parities-wrong p [] at next h = absurd (omega arith)
+parities-wrong p (b ∷ l) at next h = go (parityRight p b) (λ k. parities-wrong p l (at + 1) next k) h
+  where
+    go : (t : Bool) → (wrongFrom p (at + 1) l < at + 1 + length l → askParities p l (at + 1) next ≡ unframed 12 (wrongFrom p (at + 1) l))
+        → cond t (wrongFrom p (at + 1) l) at < at + suc (length l)
+        → cond t (askParities p l (at + 1) next) (unframed 12 at) ≡ unframed 12 (cond t (wrongFrom p (at + 1) l) at)
+    go true ih k = ih (omega arith)
+    go false ih k = refl
+
+pub parities-right : (p : Parity) (l : List ℕ) (at : ℕ) (next : Framed) → at + length l ≤ wrongFrom p at l → askParities p l at next ≡ next
+parities-right p [] at next h = refl
+parities-right p (b ∷ l) at next h = go (parityRight p b) (λ k. parities-right p l (at + 1) next k) h
+  where
+    go : (t : Bool) → (at + 1 + length l ≤ wrongFrom p (at + 1) l → askParities p l (at + 1) next ≡ next)
+        → at + suc (length l) ≤ cond t (wrongFrom p (at + 1) l) at → cond t (askParities p l (at + 1) next) (unframed 12 at) ≡ next
+    go true ih k = ih (omega arith)
+    go false ih k = absurd (omega arith)
+
+-- ---- 13 to 15: what the walk walkAnswer
+
+answer-stopped : (t : Tally) (at : ℕ) (ks : List Mark) (s : Stop) → answerAfter t at ks s ≡ stopped (tallied t at ks) (at + length ks) s
+answer-stopped t at [] s = ap (λ n. stopped t n s) (sym (add-zero at))
+answer-stopped t at (k ∷ ks) s =
+    let e : at + 1 + length ks ≡ at + suc (length ks) = omega arith in
+    answer-stopped (addMark k at t) (at + 1) ks s ∙ ap (λ n. stopped (tallied (addMark k at t) (at + 1) ks) n s) e
+
+answer-walk : (w : Walked) → walkAnswer noTally 0 w ≡ stopped (tallied noTally 0 (w .marks)) (length (w .marks)) (w .stop)
+answer-walk w = answer-stopped noTally 0 (w .marks) (w .stop) ∙ ap (λ n. stopped (tallied noTally 0 (w .marks)) n (w .stop)) (zero-add (length (w .marks)))
+
+-- a walk that walkAnswer a framing stopped at an end sign
+pub record FoundBy (w : Walked) (r : Framing) : Type 0 where
+  pub field : Field
+  pub end : EndSign
+  pub stop : w .stop ≡ ended field end
+  pub framing : r ≡ framingAt field end (tallied noTally 0 (w .marks)) (length (w .marks))
+
+pub found-by : (w : Walked) (r : Framing) → walkAnswer noTally 0 w ≡ framed r → FoundBy w r
+found-by w r e = go (w .stop) refl
+  where
+    go : (s : Stop) → w .stop ≡ s → FoundBy w r
+    go (ended f d) q =
+        let c : framed r ≡ framed (framingAt f d (tallied noTally 0 (w .marks)) (length (w .marks))) =
+        sym e ∙ answer-walk w ∙ ap (stopped (tallied noTally 0 (w .marks)) (length (w .marks))) q in
+        record { field = f; end = d; stop = q; framing = cc }
+    go (refused n v) q =
+        let c : framed r ≡ refusal n v = sym e ∙ answer-walk w ∙ ap (stopped (tallied noTally 0 (w .marks)) (length (w .marks))) q in
+        let z : _≡_ {A = ℕ} 0 1 = cc in
+        absurd (omega arith)
+
+-- a walk that walkAnswer a refusal
+pub refused-by : (m : Method) (line : List ℕ) (w : Walked) (n v : ℕ) → walkAnswer noTally 0 w ≡ refusal n v → framedAnswer (askWalk m line w) ≡ refusal n v
+refused-by m line w n v e = go (w .stop) refl
+  where
+    go : (s : Stop) → w .stop ≡ s → framedAnswer (askEnd m line (w .marks) (w .stop)) ≡ refusal n v
+    go (ended f d) q =
+        let c : refusal n v ≡ framed (framingAt f d (tallied noTally 0 (w .marks)) (length (w .marks))) =
+        sym e ∙ answer-walk w ∙ ap (stopped (tallied noTally 0 (w .marks)) (length (w .marks))) q in
+        let z : _≡_ {A = ℕ} 0 1 = cc in
+        absurd (omega arith)
+    go (refused k u) q =
+        let c : walkAnswer noTally 0 w ≡ refusal k u =
+        answer-walk w ∙ ap (stopped (tallied noTally 0 (w .marks)) (length (w .marks))) q in
+        ap (λ s. framedAnswer (askEnd m line (w .marks) s)) q ∙ sym c ∙ e
+
+-- ---- what a framing carries over from the tally
+
+pub record Carries (e : EndSign) (t : Tally) (after : ℕ) (r : Framing) : Type 0 where
+  pub ends : r .end ≡ e
+  pub headers : r .header ≡ t .header
+  pub texts : r .text ≡ t .text
+  pub counts : r .counted ≡ t .counted
+  pub behind : r .after ≡ after
+
+carries-segments : (s : Shape) (e : EndSign) (t : Tally) (after head inner body tail : ℕ) → Carries e t after (segments s e t after head inner body tail)
+carries-segments s e t after head inner body tail = record { ends = refl; headers = refl; texts = refl; counts = refl; behind = refl }
+
+carries-either : (b : Bool) {e : EndSign} {t : Tally} {after : ℕ} {x y : Framing} → Carries e t after x → Carries e t after y → Carries e t after (cond b x y)
+carries-either true p q = p
+carries-either false p q = q
+
+pub framing-carries : (f : Field) (e : EndSign) (t : Tally) (after : ℕ) → Carries e t after (framingAt f e t after)
+unfolding framingAt
+framing-carries Start e t after = carries-segments _ e t after _ _ _ _
+framing-carries StartDle e t after = carries-segments _ e t after _ _ _ _
+framing-carries Header e t after = carries-segments _ e t after _ _ _ _
+framing-carries HeaderDle e t after = carries-segments _ e t after _ _ _ _
+framing-carries Clear e t after = carries-segments _ e t after _ _ _ _
+framing-carries Text e t after = carries-either (eqb (t .inner) 0) (carries-segments _ e t after _ _ _ _) (carries-segments _ e t after _ _ _ _)
+framing-carries ClearDle e t after = carries-either (eqb (t .inner) 0) (carries-segments _ e t after _ _ _ _) (carries-segments _ e t after _ _ _ _)
+
+-- ---- 16 and 17
+
+module _ (m : Method) (line : List ℕ) (r : Framing) (e : walkAnswer noTally 0 (walk (isSeven m) line 0 Start) ≡ framed r) where
+  abbrev w : Walked
+  w = walk (isSeven m) line 0 Start
+
+  by : FoundBy w r
+  by = found-by w r e
+
+  carried : Carries (by .end) (tallied noTally 0 (w .marks)) (length (w .marks)) r
+  carried =
+      subst (λ (x : Framing). Carries (by .end) (tallied noTally 0 (w .marks)) (length (w .marks)) x) (sym (by .framing))
+      (framing-carries (by .field) (by .end) (tallied noTally 0 (w .marks)) (length (w .marks)))
+
+  count : r .counted ≡ length (counted (w .marks) line)
+  count = carried .counts ∙ tally-counts (w .marks) line (marks-within (isSeven m) line 0 Start) .counts
+
+  pub after-small : length line ≤ 16384 → r .after ≤ 16384
+  after-small h = omega (arith, carried .behind, marks-within (isSeven m) line 0 Start)
+
+  -- the answers to 16 and 17
+  by-count : Bool → Framed
+  by-count t = rule.ask t 17 0 (found (w .marks) (by .field) (by .end))
+
+  by-length : Bool → Framed
+  by-length t = rule.ask t 16 (length (w .marks)) (by-count (leb (length (counted (w .marks) line)) 4096))
+
+  asked : askWalk m line w ≡ by-length (eqb (length line) (length (w .marks) + checkLength m))
+  unfolding by-length by-count
+  asked = ap (askEnd m line (w .marks)) (by .stop)
+
+  pub wrong-length : (length line ≡ r .after + checkLength m → ⊥) → framedAnswer (askWalk m line w) ≡ refusal 16 (r .after)
+  unfolding by-length
+  wrong-length h =
+      let n = ne-eqb (length line) (length (w .marks) + checkLength m) (λ q. h (q ∙ ap (λ n. n + checkLength m) (sym (carried .behind)))) in
+      ap framedAnswer (asked ∙ ap by-length n) ∙ ap (refusal 16) (sym (carried .behind))
+
+  module _ (h : length line ≡ r .after + checkLength m) where
+    right-length : askWalk m line w ≡ by-count (leb (length (counted (w .marks) line)) 4096)
+    unfolding by-length
+    right-length = asked ∙ ap by-length (eq-eqb (length line) (length (w .marks) + checkLength m) (h ∙ ap (λ n. n + checkLength m) (carried .behind)))
+
+    pub too-many : 4096 < r .counted → framedAnswer (askWalk m line w) ≡ refusal 17 0
+    unfolding by-count
+    too-many k = ap framedAnswer (right-length ∙ ap by-count (lt-leb (length (counted (w .marks) line)) 4096 (omega (arith, count))))
+
+    pub all-passed : r .counted ≤ 4096 → framedAnswer (askWalk m line w) ≡ framed r
+    unfolding by-count
+    all-passed k =
+        ap framedAnswer (right-length ∙ ap by-count (le-leb (length (counted (w .marks) line)) 4096 (omega (arith, count)))) ∙ ap framed (sym (by .framing))
+
+-- ---- the same of the code's walk
+
+module _ (m : Method) (line : List ℕ) {seven : Bool} {result : WalkEnd} (s : seven ≡ isSeven m)
+    (e : ofWalk result ≡ walkAnswer noTally 0 (walk seven line 0 Start)) where
+  pub answer-as : {r : Framing} → result ≡ code.Found r → walkAnswer noTally 0 (walk (isSeven m) line 0 Start) ≡ framed r
+  answer-as q = sym (e ∙ ap (λ t. walkAnswer noTally 0 (walk t line 0 Start)) s) ∙ ap ofWalk q
+
+  pub refused-as : {r : ReadRefusal} → result ≡ code.Refused r → ofWalk result ≡ framedAnswer (askWalk m line (walk (isSeven m) line 0 Start))
+  refused-as {r} q =
+      ap ofWalk q ∙ sym (refused-by m line (walk (isSeven m) line 0 Start) (readNumber r) (readValue r)
+      (sym (e ∙ ap (λ t. walkAnswer noTally 0 (walk t line 0 Start)) s) ∙ ap ofWalk q))
+
+-- ---- 11 and 12
+
+module _ (m : Method) (p : Parity) (line : List ℕ) where
+  pub too-long : 16384 < length line → refusal 11 0 ≡ framedAnswer (rule.framed m p line)
+  unfolding rule.framed
+  too-long h = rw (lt-leb (length line) 16384 h)
+
+  module _ (h : length line ≤ 16384) where
+    pub eight-bit : {seven : Bool} → seven ≡ isSeven m → seven ≡ false → framedAnswer (askWalk m line (walk (isSeven m) line 0 Start)) ≡ framedAnswer (rule.framed m p line)
+    unfolding rule.framed
+    eight-bit s e = rw (le-leb (length line) 16384 h, sym s ∙ e)
+
+    module _ {seven : Bool} (s : seven ≡ isSeven m) (e : seven ≡ true) where
+      seven-bit : rule.framed m p line ≡ askParities p line 0 (askWalk m line (walk (isSeven m) line 0 Start))
+      unfolding rule.framed
+      seven-bit =
+          ap (λ t. rule.ask t 11 0 (cond (isSeven m) (askParities p line 0 (askWalk m line (walk (isSeven m) line 0 Start))) (askWalk m line (walk (isSeven m) line 0 Start)))) (le-leb (length line) 16384 h)
+          ∙ ap (λ t. cond t (askParities p line 0 (askWalk m line (walk (isSeven m) line 0 Start))) (askWalk m line (walk (isSeven m) line 0 Start))) (sym s ∙ e)
+
+      pub wrong-parity : {at : ℕ} → at ≡ wrongFrom p 0 line → at < length line → refusal 12 at ≡ framedAnswer (rule.framed m p line)
+      wrong-parity q k =
+          ap (refusal 12) q ∙ sym (ap framedAnswer (seven-bit ∙ parities-wrong p line 0 _ (omega arith)))
+
+      pub right-parity : {at : ℕ} → at ≡ wrongFrom p 0 line → length line ≤ at
+          → framedAnswer (askWalk m line (walk (isSeven m) line 0 Start)) ≡ framedAnswer (rule.framed m p line)
+      right-parity q k = sym (ap framedAnswer (seven-bit ∙ parities-right p line 0 _ (omega arith)))

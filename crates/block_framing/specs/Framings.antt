@@ -1,0 +1,170 @@
+-- What the walk hands on: where header and text begin and end, and what was counted. Every byte behind it is found from that
+-- without judging again. Assumes nothing.
+use mathlib.Core.Path.{_≡_}
+use Prim.Native.Nat.{ℕ, _+_, _-_, _≤_, _<_}
+use mathlib.Core.Bool.{Bool, false, cond, not, _&&_}
+use mathlib.Core.List.{List, [], _∷_, _++_}
+use lib.Dec.{eqb}
+use lib.ListN.{length, getD}
+use lib.Seq.{slice}
+use Rattle.bits.specs.Differences.{consIf}
+use Rattle.block.specs.declared.Parity.{Parity}
+use Rattle.block.specs.declared.Shape.{Shape}
+use Rattle.block.specs.declared.Shape.the-variants as shape
+use Rattle.block.specs.declared.EndSign.{EndSign}
+use Rattle.block.specs.declared.Mark.{Mark}
+use Rattle.block.specs.declared.Mark.the-variants.{LeftOut, HeaderByte, TextByte, InnerStart, End}
+use Rattle.block.specs.declared.Field.{Field}
+use Rattle.block.specs.declared.Field.the-variants.{Start, StartDle, Header, HeaderDle, Text, Clear, ClearDle}
+use Rattle.block.specs.Signs.{SYN, DLE}
+use Rattle.block.specs.Characters.{character, parityRight}
+use Rattle.block.specs.Walk.{Stop, ended, refused, Walked}
+use Rattle.block.specs.Marks.{counted, isHeader, isText, sift}
+use Rattle.block.specs.Read.{Framed, found, unframed}
+use Rattle.block.specs.Write.{isClear}
+use Rattle.block.specs.Answers.{Numbers, readNumber, readValue}
+use Rattle.block.specs.Answers as answers
+use Rattle.block_framing.specs.declared.Tally.{Tally}
+use Rattle.block_framing.specs.declared.Framing.{Framing}
+use Rattle.block_framing.specs.declared.WalkEnd.{WalkEnd}
+use Rattle.block_framing.specs.declared.WalkEnd.the-variants as code
+
+-- ---- the marks counted up
+
+abbrev pub noTally : Tally
+noTally = record { inner = 0; header = 0; text = 0; counted = 0 }
+
+-- the place of the first inner start; it is never 0
+abbrev pub firstOf : ℕ → ℕ → ℕ
+firstOf inner at = cond (eqb inner 0) at inner
+
+abbrev pub addMark : Mark → ℕ → Tally → Tally
+addMark LeftOut at t = t
+addMark HeaderByte at t = record { inner = t .inner; header = t .header + 1; text = t .text; counted = t .counted + 1 }
+addMark TextByte at t = record { inner = t .inner; header = t .header; text = t .text + 1; counted = t .counted + 1 }
+addMark InnerStart at t = record { inner = firstOf (t .inner) at; header = t .header; text = t .text; counted = t .counted + 1 }
+addMark End at t = record { inner = t .inner; header = t .header; text = t .text; counted = t .counted + 1 }
+
+abbrev pub tallied : Tally → ℕ → List Mark → Tally
+tallied t at [] = t
+tallied t at (k ∷ ks) = tallied (addMark k at t) (at + 1) ks
+
+-- no number of a tally is past n
+pub record Small (t : Tally) (n : ℕ) : Type 0 where
+  pub inner : t .inner ≤ n
+  pub header : t .header ≤ n
+  pub text : t .text ≤ n
+  pub counted : t .counted ≤ n
+
+-- ---- the framing
+
+abbrev pub segments : Shape → EndSign → Tally → ℕ → ℕ → ℕ → ℕ → ℕ → Framing
+segments s e t after head inner body tail =
+    record {
+      shape = s;
+      end = e;
+      head = head;
+      inner = inner;
+      body = body;
+      tail = tail;
+      header = t .header;
+      text = t .text;
+      counted = t .counted;
+      after = after;
+    }
+
+-- a line whose end sign stands in its header
+abbrev pub headerOnly : EndSign → Tally → ℕ → Framing
+headerOnly e t after = segments shape.Header e t after 1 (after - 1) (after - 1) (after - 1)
+
+-- a line whose end sign stands in field f, behind `after` bytes
+unfoldable pub framingAt : Field → EndSign → Tally → ℕ → Framing
+framingAt Start e t after = headerOnly e t after
+framingAt StartDle e t after = headerOnly e t after
+framingAt Header e t after = headerOnly e t after
+framingAt HeaderDle e t after = headerOnly e t after
+framingAt Clear e t after = headerOnly e t after
+framingAt Text e t after =
+    cond (eqb (t .inner) 0)
+    (segments shape.Text e t after 1 1 1 (after - 1))
+    (segments shape.HeaderText e t after 1 (t .inner) (t .inner + 1) (after - 1))
+framingAt ClearDle e t after =
+    cond (eqb (t .inner) 0)
+    (segments shape.ClearText e t after 2 2 2 (after - 2))
+    (segments shape.HeaderClearText e t after 1 (t .inner) (t .inner + 2) (after - 2))
+
+-- a framing, or number and value of a refusal
+pub data WalkAnswer : Type 0 where
+  framed : Framing → WalkAnswer
+  refusal : ℕ → ℕ → WalkAnswer
+
+abbrev pub ofWalk : WalkEnd → WalkAnswer
+ofWalk (code.Found f) = framed f
+ofWalk (code.Refused r) = refusal (readNumber r) (readValue r)
+
+abbrev pub stopped : Tally → ℕ → Stop → WalkAnswer
+stopped t at (ended f e) = framed (framingAt f e t at)
+stopped t at (refused number value) = refusal number value
+
+abbrev pub answerAfter : Tally → ℕ → List Mark → Stop → WalkAnswer
+answerAfter t at [] s = stopped t at s
+answerAfter t at (k ∷ ks) s = answerAfter (addMark k at t) (at + 1) ks s
+
+-- what the walk hands on, from the tally t and the place `at` on
+abbrev pub walkAnswer : Tally → ℕ → Walked → WalkAnswer
+walkAnswer t at w = answerAfter t at (w .marks) (w .stop)
+
+-- the same of a line that passed 11 to 17
+abbrev pub framedAnswer : Framed → WalkAnswer
+framedAnswer (found ks f e) = framed (framingAt f e (tallied noTally 0 ks) (length ks))
+framedAnswer (unframed number value) = refusal number value
+
+-- the refusal where no framing was found
+abbrev pub ofUnframed : WalkAnswer → Numbers
+ofUnframed (framed f) = answers.refused 15 0
+ofUnframed (refusal number value) = answers.refused number value
+
+-- the first place from `at` on whose parity is wrong, or the place after the line
+abbrev pub wrongFrom : Parity → ℕ → List ℕ → ℕ
+wrongFrom p at [] = at
+wrongFrom p at (b ∷ bs) = cond (parityRight p b) (wrongFrom p (at + 1) bs) at
+
+-- ---- bytes by their segments
+
+-- whether a byte of a segment is header or text. In header and plain text SYN is left out; in clear text the first DLE of a pair
+-- is, and a SYN `behind` a DLE
+unfoldable pub isKept : Bool → Bool → Bool → ℕ → Bool
+isKept clear seven behind b = not (cond clear (cond behind (eqb b SYN) (eqb b DLE)) (eqb (character seven b) SYN))
+
+unfoldable pub nextBehind : Bool → Bool → ℕ → Bool
+nextBehind clear behind b = clear && (not behind && eqb b DLE)
+
+unfoldable pub keptBytes : Bool → Bool → Bool → List ℕ → List ℕ
+keptBytes clear seven behind [] = []
+keptBytes clear seven behind (b ∷ bs) = consIf (isKept clear seven behind b) b (keptBytes clear seven (nextBehind clear behind b) bs)
+
+unfoldable pub headerIn : Bool → Framing → List ℕ → List ℕ
+headerIn seven f line = keptBytes false seven false (slice (f .head) (f .inner) line)
+
+unfoldable pub textIn : Bool → Framing → List ℕ → List ℕ
+textIn seven f line = keptBytes (isClear (f .shape)) seven false (slice (f .body) (f .tail) line)
+
+-- header, inner start, text, end sign
+unfoldable pub countedIn : Bool → Framing → List ℕ → List ℕ
+countedIn seven f line =
+    headerIn seven f line ++ (slice (f .inner) (f .body) line ++ (textIn seven f line ++ getD line (f .after - 1) 0 ∷ []))
+
+-- the segments stand in order within the line
+pub record Ordered (f : Framing) (size : ℕ) : Type 0 where
+  pub header : f .head ≤ f .inner
+  pub inner : f .inner ≤ f .body
+  pub text : f .body ≤ f .tail
+  pub end : f .tail < f .after
+  pub within : f .after ≤ size
+
+-- a framing finds what the marks say
+pub record Segmented (seven : Bool) (line : List ℕ) (ks : List Mark) (f : Framing) : Type 0 where
+  pub ordered : Ordered f (length line)
+  pub headers : sift isHeader ks line ≡ headerIn seven f line
+  pub texts : sift isText ks line ≡ textIn seven f line
+  pub counts : counted ks line ≡ countedIn seven f line

@@ -1,0 +1,42 @@
+// The framing of a block's line (document 01, part 3, and questions 11 to 17): `find_framing` judges every byte by its sign and
+// field and hands on where header, inner start and text begin and end, or the first refusal. It takes every input.
+use block::EndSign;
+use block::ReadRefusal;
+use block::Shape;
+
+// The marks so far, counted up: the place of the first inner start (0 where there was none), and the numbers of header bytes,
+// text bytes and counted bytes.
+pub struct Tally {
+    pub inner: usize,
+    pub header: usize,
+    pub text: usize,
+    pub counted: usize,
+}
+
+// What the walk hands on: shape and end sign; the places of the header (from `head` up to `inner`), of the inner start (up to
+// `body`) and of the text (up to `tail`); the lengths of header and text without fill; the counted number; and the place after
+// the end sign.
+pub struct Framing {
+    pub shape: Shape,
+    pub end: EndSign,
+    pub head: usize,
+    pub inner: usize,
+    pub body: usize,
+    pub tail: usize,
+    pub header: usize,
+    pub text: usize,
+    pub counted: usize,
+    pub after: usize,
+}
+
+// How a walk ended.
+pub enum WalkEnd {
+    Found(Framing),
+    Refused(ReadRefusal),
+}
+
+mod judge;
+mod questions;
+mod walk;
+
+pub use questions::find_framing;

@@ -1,0 +1,183 @@
+// The walk over a line, questions 13 to 15, and the framing that it finds.
+use crate::Framing;
+use crate::Tally;
+use crate::WalkEnd;
+use crate::judge::judge;
+use block::BytePlace;
+use block::EndSign;
+use block::Field;
+use block::Judged;
+use block::Mark;
+use block::ReadRefusal;
+use block::Shape;
+use block::character;
+ghost use mathlib.Core.Path.{_≡_};
+ghost use Prim.Native.Nat.{_-_, _≤_};
+ghost use lib.ListN.{length};
+ghost use Rattle.block.specs.Walk as rule;
+ghost use Rattle.block_framing.specs.Framings.{noTally, firstOf, addMark, segments, framingAt, ofWalk, stopped, walkAnswer, Small};
+
+// The place before, 0 before the first.
+fn place_before(at: usize) -> usize
+    ensures { λ r. ⌜ r ≡ at - 1 ⌝ }
+{
+    if at == 0 { 0 } else { at - 1 }
+}
+
+fn first_of(inner: usize, at: usize) -> usize
+    ensures { λ r. ⌜ r ≡ firstOf inner at ⌝ }
+{
+    if inner == 0 { at } else { inner }
+}
+
+// The tally with one more mark, that of the byte at the place `at`.
+fn add_mark(k: Mark, at: usize, t: Tally) -> Tally
+    requires { ⌜ Small t 16384 ⌝ }
+    ensures { λ r. ⌜ r ≡ addMark k at t ⌝ }
+{
+    let inner = t.inner;
+    match k {
+        Mark::LeftOut => t,
+        Mark::HeaderByte => Tally {
+            inner,
+            header: t.header + 1,
+            text: t.text,
+            counted: t.counted + 1,
+        },
+        Mark::TextByte => Tally {
+            inner,
+            header: t.header,
+            text: t.text + 1,
+            counted: t.counted + 1,
+        },
+        Mark::InnerStart => Tally {
+            inner: first_of(inner, at),
+            header: t.header,
+            text: t.text,
+            counted: t.counted + 1,
+        },
+        Mark::End => Tally {
+            inner,
+            header: t.header,
+            text: t.text,
+            counted: t.counted + 1,
+        },
+    }
+}
+
+fn segments_at(
+    shape: Shape,
+    end: EndSign,
+    t: Tally,
+    after: usize,
+    from: usize,
+    to: usize,
+    begin: usize,
+    stop: usize,
+) -> Framing
+    ensures { λ r. ⌜ r ≡ segments shape end t after from to begin stop ⌝ }
+{
+    Framing {
+        shape,
+        end,
+        head: from,
+        inner: to,
+        body: begin,
+        tail: stop,
+        header: t.header,
+        text: t.text,
+        counted: t.counted,
+        after,
+    }
+}
+
+// The framing of a line whose end sign stands in field f, behind `after` bytes.
+fn framing_at(f: Field, end: EndSign, t: Tally, after: usize) -> Framing
+    requires { ⌜ Small t 16384 ⌝ }
+    ensures { λ r. ⌜ r ≡ framingAt f end t after ⌝ }
+{
+    let last = place_before(after);
+    let inner = t.inner;
+    match f {
+        Field::Text => {
+            if inner == 0 {
+                segments_at(Shape::Text, end, t, after, 1, 1, 1, last)
+            } else {
+                segments_at(Shape::HeaderText, end, t, after, 1, inner, inner + 1, last)
+            }
+        }
+        Field::ClearDle => {
+            if inner == 0 {
+                segments_at(Shape::ClearText, end, t, after, 2, 2, 2, place_before(last))
+            } else {
+                segments_at(
+                    Shape::HeaderClearText,
+                    end,
+                    t,
+                    after,
+                    1,
+                    inner,
+                    inner + 2,
+                    place_before(last),
+                )
+            }
+        }
+        Field::Start => segments_at(Shape::Header, end, t, after, 1, last, last, last),
+        Field::StartDle => segments_at(Shape::Header, end, t, after, 1, last, last, last),
+        Field::Header => segments_at(Shape::Header, end, t, after, 1, last, last, last),
+        Field::HeaderDle => segments_at(Shape::Header, end, t, after, 1, last, last, last),
+        Field::Clear => segments_at(Shape::Header, end, t, after, 1, last, last, last),
+    }
+}
+
+// The line ends before an end sign.
+fn cut(f: Field) -> WalkEnd
+    ensures { λ r. ⌜ ofWalk r ≡ stopped noTally 0 (rule.cut f) ⌝ }
+{
+    match f {
+        Field::Start => WalkEnd::Refused(ReadRefusal::NoStart),
+        Field::StartDle => WalkEnd::Refused(ReadRefusal::NoStart),
+        Field::Header => WalkEnd::Refused(ReadRefusal::NoEnd),
+        Field::HeaderDle => WalkEnd::Refused(ReadRefusal::NoEnd),
+        Field::Text => WalkEnd::Refused(ReadRefusal::NoEnd),
+        Field::Clear => WalkEnd::Refused(ReadRefusal::NoEnd),
+        Field::ClearDle => WalkEnd::Refused(ReadRefusal::NoEnd),
+    }
+}
+
+pub fn walk(seven: bool, line: &[u8]) -> WalkEnd
+    requires { ⌜ length (now line) ≤ 16384 ⌝ }
+    ensures { λ r. ⌜ ofWalk r ≡ walkAnswer noTally 0 (rule.walk seven (now (line .entry)) 0 Field.Start) ⌝ }
+{
+    let mut t = Tally {
+        inner: 0,
+        header: 0,
+        text: 0,
+        counted: 0,
+    };
+    let mut f = Field::Start;
+    let mut i = 0;
+    while i < line.len() {
+        match judge(seven, f, character(seven, line[i])) {
+            Judged::Is(k, g) => {
+                t = add_mark(k, i, t);
+                f = g;
+            }
+            Judged::Ends(e) => {
+                let counted = add_mark(Mark::End, i, t);
+                return WalkEnd::Found(framing_at(f, e, counted, i + 1));
+            }
+            Judged::NoStart => {
+                return WalkEnd::Refused(ReadRefusal::NoStart);
+            }
+            Judged::OutOfPlace => {
+                return WalkEnd::Refused(ReadRefusal::OutOfPlace(BytePlace(i)));
+            }
+            Judged::DleOutOfPlace => {
+                return WalkEnd::Refused(ReadRefusal::OutOfPlace(BytePlace(place_before(i))));
+            }
+        }
+        i += 1;
+    }
+    cut(f)
+}
