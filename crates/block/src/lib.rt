@@ -1,6 +1,7 @@
 // Blocks of methods 1 to 4 (003 par. 1.2, 1.3 and 2.1; document 01, parts 1 and 3): the types of the block calls, and in specs/
-// the rules of reading and writing, by which `read_block` (crates block_framing and block_reader) and `write_block` (crate block_writer) answer. The
-// functions here are what both calls use; each takes every input, and its contract gives the result by the rules.
+// the rules of reading and writing, by which `read_block` (crate block_reader) and `write_block` (crate block_writer) answer. The
+// functions here are what more than one of the crates above uses; each takes every input, and its contract gives the result by
+// the rules.
 
 // Methods 1 to 4.
 pub enum Method {
