@@ -25,7 +25,7 @@ partsWritten s e head body = record { shape = s; end = e; header = head; text = 
 -- "reading a written line gives back its parts"
 abbrev pub WrittenReadsBack : Type 0
 WrittenReadsBack =
-    (m : Method) (p : Parity) (s : Shape) (e : EndSign) (head body line : List ℕ) (room space : ℕ) → Bytes head → Bytes body
+    (m : Method) (p : Parity) (s : Shape) (e : EndSign) (head body line : List ℕ) (room space : ℕ)
     → writeBlock m p s e head body room ≡ written line → length head + length body ≤ space
     → readBlock m p line space ≡ taken (partsWritten s e head body)
 
@@ -44,7 +44,7 @@ AcceptedIsTaken =
 -- the same of frames; the frame is read from the bytes that hold it, whatever stands behind them
 abbrev pub FrameReadsBack : Parameters → Type 0
 FrameReadsBack m =
-    (content : List ℕ) (frame : List Bool) (room space : ℕ) (behind : List ℕ) → Bytes content → frame-writing.writeFrame m content room ≡ frame-writing.written frame
+    (content : List ℕ) (frame : List Bool) (room space : ℕ) (behind : List ℕ) → frame-writing.writeFrame m content room ≡ frame-writing.written frame
     → length content ≤ space
     → frame-reading.readFrame m (length frame) (pack frame ++ behind) space ≡ frame-reading.taken (bitsOf content)
 

@@ -1,6 +1,6 @@
 -- A written block comes back: by the second property its line is read where the output holds the parts, and the questions before
 -- the output's do not depend on its length. Assumes nothing.
-use mathlib.Core.Path.{_≡_, refl, sym, ap, ap₂, _∙_}
+use mathlib.Core.Path.{_≡_, refl, sym, ap, _∙_}
 use Prim.Native.Nat.{ℕ, _+_, _≤_}
 use native.Mathlib.Omega.{arith}
 use mathlib.Core.Bool.{Bool, true, false, cond}
@@ -8,9 +8,8 @@ use mathlib.Core.List.{List, _++_}
 use lib.Dec.{leb}
 use lib.ListN.{length, take, drop, length-append}
 use lib.Seq.{take-at}
-use borrow.Author.Tests.{leb-true}
 use Rattle.bits.specs.Strings.{same}
-use Rattle.bits.specs.Bytes.{bitsOf, Bytes}
+use Rattle.bits.specs.Bytes.{bitsOf}
 use Rattle.block.specs.declared.Method.{Method}
 use Rattle.block.specs.declared.Parity.{Parity}
 use Rattle.block.specs.declared.Shape.{Shape}
@@ -27,7 +26,7 @@ use Rattle.block.specs.Check.{checkOf}
 use Rattle.block.specs.Marks.{counted, checkBytes}
 use Rattle.block.specs.Read.{Framed, found, unframed, framed, Parts, partsOf, outputLength, ReadAnswer, taken, refusal, askCheck, readBlock, readOutput}
 use Rattle.block.specs.Write as writing
-use Rattle.block.specs.Answers.{refused, ofRead, ofReadAnswer, ofWritten, ofWriteAnswer}
+use Rattle.block.specs.Answers.{ofRead, ofReadAnswer, ofWritten, ofWriteAnswer}
 use Rattle.block.proofs.OneToOne.{ofRead-injective}
 use Rattle.guarantees.specs.Second.{partsWritten}
 use Rattle.guarantees.proofs.Second.{second-property}
@@ -114,7 +113,7 @@ module _ (m : Method) (p : Parity) (s : Shape) (e : EndSign) (head body line out
     pub room : length head + length body ≤ length out₁
     pub equal : BlockOf s e head body b out₁
 
-  module _ (hb : Bytes head) (tb : Bytes body) {n : ℕ} {line₁ : List ℕ} (w : WrittenLine n line₁) (r : BlockRead) {out₁ : List ℕ} (h : Reads (take n line₁) r out₁) where
+  module _ {n : ℕ} {line₁ : List ℕ} (w : WrittenLine n line₁) (r : BlockRead) {out₁ : List ℕ} (h : Reads (take n line₁) r out₁) where
     abbrev answered : Bool → ReadAnswer
     answered fits = cond fits (taken (partsWritten s e head body)) (refusal 19 (length head + length body))
 
@@ -122,7 +121,7 @@ module _ (m : Method) (p : Parity) (s : Shape) (e : EndSign) (head body line out
     read-back =
         ap (λ l. readBlock m p l (length out)) (w .part)
         ∙ other-room m p (w .bytes) (length head + length body) (length out) (partsWritten s e head body)
-        (second-property .written-reads-back m p s e head body (w .bytes) (length line) (length head + length body) hb tb (w .by-rule) (omega arith))
+        (second-property .written-reads-back m p s e head body (w .bytes) (length line) (length head + length body) (w .by-rule) (omega arith))
 
     -- the answer and the outputs, of the answer that the comparing gives
     returned : {answer : ReadBack} (fits : Bool) → leb (length head + length body) (length out) ≡ fits

@@ -126,7 +126,7 @@ module _ (m : FrameMethod) (content frame out : List ℕ) where
         ap (λ k. readFrame (parametersOf m) k frame₁ (length out)) (w .size)
         ∙ ap (λ l. readFrame (parametersOf m) (length (w .bits)) l (length out)) (w .bytes)
         ∙ other-room (parametersOf m) (length (w .bits)) (pack (w .bits) ++ drop (bytesFor (length (w .bits))) frame) (length content) (length out) (bitsOf content)
-        (reads-back m content (w .bits) (length frame) (length content) (drop (bytesFor (length (w .bits))) frame) cb (w .by-rule) (omega arith))
+        (reads-back m content (w .bits) (length frame) (length content) (drop (bytesFor (length (w .bits))) frame) (w .by-rule) (omega arith))
         ∙ ap (λ k. cond (leb k (length out)) (taken (bitsOf content)) (refusal 38 k)) (whole content cb)
 
     returned : {answer : ReadBack} (fits : Bool) → leb (length content) (length out) ≡ fits → answer ≡ frameAnswer (writing.written (w .bits)) (answered fits)

@@ -123,7 +123,7 @@ module _ (m : Parameters) (w : ℕ) (wide : OfWidth w m) (eights : w % 8 ≡ 0) 
 
   pub frame-reads-back : FrameReadsBack m
   unfolding readFrame readBits frameOf checkedBits
-  frame-reads-back content frame room space behind bytes e h =
+  frame-reads-back content frame room space behind e h =
       let f = was-written m content frame room e in
       let c = bitsOf content in
       let n = length-bitsOf content in

@@ -110,7 +110,7 @@ module _ (m : Method) (p : Parity) (s : Shape) (e : EndSign) (head body : List â
       cc
 
 pub written-reads-back : WrittenReadsBack
-written-reads-back m p s e head body line room space bytes-head bytes-body w h =
+written-reads-back m p s e head body line room space w h =
     let q = passed m p s e head body line room w in
     let a = q .allowed in
     let n = q .count in

@@ -3,7 +3,6 @@
 use mathlib.Core.Path.{sym}
 use lib.Seq.{length-take-le}
 use borrow.Author.Needs.{needs}
-use Rattle.roundtrip.proofs.Compared.{bytes-of}
 use Rattle.roundtrip.proofs.BlockReturns.{not-written, written-line, taken-back, taken-returns, refused-returns}
 use Rattle.roundtrip.proofs.blocks.block_returns.Statement.{statement}
 use Rattle.roundtrip.proofs.blocks.block_returns.Tie as tie
@@ -49,7 +48,7 @@ same-block-requires c κs =
     let k = c .before .before .before .before .before .before .before .before .before in
     let a = k .before .before .before .before .before .before .before .before .before .before .before .args in
     let w = written-line (a .method) (a .parity) (a .shape) (a .end) (a .header .now) (a .text .now) (a .line .now) (a .out .now) _ (k .before .before .before .before .before .write-block .ensures) (k .before .written .given .1) in
-    let t = taken-back (a .method) (a .parity) (a .shape) (a .end) (a .header .now) (a .text .now) (a .line .now) (a .out .now) (bytes-of (a .header .now) (λ i. k .before .before .before .before .before .before .before .before .before .before .shared-slice-known .given i .fits)) (bytes-of (a .text .now) (λ i. k .before .before .before .before .before .before .before .before .before .shared-slice-known2 .given i .fits)) w _ (c .before .before .before .before .before .before .read-block .ensures) (c .before .before .read .given .1) in
+    let t = taken-back (a .method) (a .parity) (a .shape) (a .end) (a .header .now) (a .text .now) (a .line .now) (a .out .now) w _ (c .before .before .before .before .before .before .read-block .ensures) (c .before .before .read .given .1) in
     t .room
 
 compared-requires : tie.Need-compared-requires
@@ -73,7 +72,7 @@ returns-2 c =
     let a = k .before .before .before .before .before .before .before .before .before .before .before .args in
     let h = k .before .before .before .before .before .write-block .ensures in
     let w = written-line (a .method) (a .parity) (a .shape) (a .end) (a .header .now) (a .text .now) (a .line .now) (a .out .now) _ h (k .before .written .given .1) in
-    taken-returns (a .method) (a .parity) (a .shape) (a .end) (a .header .now) (a .text .now) (a .line .now) (a .out .now) (bytes-of (a .header .now) (λ i. k .before .before .before .before .before .before .before .before .before .before .shared-slice-known .given i .fits)) (bytes-of (a .text .now) (λ i. k .before .before .before .before .before .before .before .before .before .shared-slice-known2 .given i .fits)) w _ (c .before .before .before .before .before .before .before .before .read-block .ensures) (c .before .before .before .before .read .given .1)
+    taken-returns (a .method) (a .parity) (a .shape) (a .end) (a .header .now) (a .text .now) (a .line .now) (a .out .now) w _ (c .before .before .before .before .before .before .before .before .read-block .ensures) (c .before .before .before .before .read .given .1)
     (c .before .same-block .ensures .1)
     (c .compared .ensures)
     (h .1)
@@ -90,7 +89,7 @@ returns-3 c =
     let a = k .before .before .before .before .before .before .before .before .before .before .before .args in
     let h = k .before .before .before .before .before .write-block .ensures in
     let w = written-line (a .method) (a .parity) (a .shape) (a .end) (a .header .now) (a .text .now) (a .line .now) (a .out .now) _ h (k .before .written .given .1) in
-    refused-returns (a .method) (a .parity) (a .shape) (a .end) (a .header .now) (a .text .now) (a .line .now) (a .out .now) (bytes-of (a .header .now) (λ i. k .before .before .before .before .before .before .before .before .before .before .shared-slice-known .given i .fits)) (bytes-of (a .text .now) (λ i. k .before .before .before .before .before .before .before .before .before .shared-slice-known2 .given i .fits)) w _ (c .before .before .before .before .before .before .read-block .ensures) (c .before .before .read2 .given .1)
+    refused-returns (a .method) (a .parity) (a .shape) (a .end) (a .header .now) (a .text .now) (a .line .now) (a .out .now) w _ (c .before .before .before .before .before .before .read-block .ensures) (c .before .before .read2 .given .1)
     (c .unread .ensures)
     (h .1)
 
