@@ -1,15 +1,13 @@
 -- Laws of the numbers of set bits: a burst lies in a window, and two set bits have zeros around them. Assumes nothing.
 use mathlib.Core.Path.{_≡_, refl, sym, ap, _∙_}
-use Prim.Native.Nat.{ℕ, zero, suc, _+_, _*_, _≤_, _<_}
+use Prim.Native.Nat.{ℕ, zero, suc, _+_, _≤_, _<_}
 use native.Mathlib.Omega.{arith}
 use mathlib.Core.Bool.{Bool, true, false}
 use mathlib.Core.List.{List, [], _∷_, _++_, append-assoc, head-eq-of-cons-eq, tail-eq-of-cons-eq}
 use lib.ListN.{length}
 use Rattle.bits.specs.Strings.{xor, zeros, weight}
-use Rattle.bits.specs.Bytes.{bitsOf, Bytes}
-use Rattle.bits.specs.Differences.{setFrom, differing, differingBits, Each, Burst}
+use Rattle.bits.specs.Differences.{setFrom, differing, Each, Burst}
 use Rattle.bits.proofs.Strings.{equal-of-xor, length-xor}
-use Rattle.bits.proofs.Bytes.{bitsOf-injective, length-bitsOf}
 
 -- ---- setFrom
 
@@ -17,10 +15,6 @@ pub length-setFrom : (n : ℕ) (e : List Bool) → length (setFrom n e) ≡ weig
 length-setFrom n [] = refl
 length-setFrom n (true ∷ e) = ap suc (length-setFrom (suc n) e)
 length-setFrom n (false ∷ e) = length-setFrom (suc n) e
-
-pub setFrom-zeros : (n : ℕ) (k : ℕ) → setFrom n (zeros k) ≡ []
-setFrom-zeros n zero = refl
-setFrom-zeros n (suc k) = setFrom-zeros (suc n) k
 
 pub setFrom-nil : (n : ℕ) (e : List Bool) → setFrom n e ≡ [] → e ≡ zeros (length e)
 setFrom-nil n [] h = refl
@@ -50,11 +44,6 @@ length-differing a b = length-setFrom 0 (xor a b)
 
 pub equal-of-differing : (a b : List Bool) → length a ≡ length b → differing a b ≡ [] → a ≡ b
 equal-of-differing a b h e = equal-of-xor a b h (setFrom-nil 0 (xor a b) e ∙ ap zeros (length-xor a b h))
-
--- two lines of bytes that differ in no bit are one
-pub equal-lines : (A B : List ℕ) → Bytes A → Bytes B → length A ≡ length B → differingBits A B ≡ [] → A ≡ B
-equal-lines A B p q h e =
-    bitsOf-injective A B p q h (equal-of-differing (bitsOf A) (bitsOf B) (length-bitsOf A ∙ ap (λ n. 8 * n) h ∙ sym (length-bitsOf B)) e)
 
 -- ---- Burst
 

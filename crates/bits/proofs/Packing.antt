@@ -7,8 +7,8 @@ use mathlib.Core.List.{List, [], _∷_, _++_, append-assoc, append-nil}
 use lib.Dec.{leb}
 use borrow.Author.Tests.{leb-true, leb-false}
 use lib.Pow.{pow-mono}
-use lib.ListN.{length, take, drop, getD, length-take, length-drop, take-append-drop, drop-of-length-le}
-use lib.Seq.{take-all, take-at, drop-drop}
+use lib.ListN.{length, take, drop, length-take, length-drop, take-append-drop, drop-of-length-le}
+use lib.Seq.{take-all, take-at}
 use Rattle.bits.specs.Strings.{zeros}
 use Rattle.bits.specs.Bytes.{lowBits, bitsOf, Bytes, littleEndian, value, bytesFor, packInto, pack}
 use Rattle.bits.proofs.Strings.{zeros-append}
@@ -20,14 +20,6 @@ length-packInto : (n : ℕ) (s : List Bool) → length (packInto n s) ≡ n
 unfolding packInto
 length-packInto zero s = refl
 length-packInto (suc n) s = ap suc (length-packInto n (drop 8 s))
-
-getD-packInto : (n : ℕ) (s : List Bool) (i : ℕ) → i < n → getD (packInto n s) i 0 ≡ value (take 8 (drop (8 * i) s))
-unfolding packInto
-getD-packInto zero s i h = absurd (omega arith)
-getD-packInto (suc n) s zero h = refl
-getD-packInto (suc n) s (suc i) h =
-    let e : 8 + 8 * i ≡ 8 * suc i = omega arith in
-    getD-packInto n (drop 8 s) i (omega arith) ∙ ap (λ l. value (take 8 l)) (drop-drop (8 * i) 8 s ∙ ap (λ k. drop k s) e)
 
 bytes-packInto : (n : ℕ) (s : List Bool) → Bytes (packInto n s)
 unfolding packInto
@@ -73,10 +65,6 @@ pub length-pack : (s : List Bool) → length (pack s) ≡ bytesFor (length s)
 unfolding pack
 length-pack s = length-packInto (bytesFor (length s)) s
 
-pub getD-pack : (s : List Bool) (i : ℕ) → i < bytesFor (length s) → getD (pack s) i 0 ≡ value (take 8 (drop (8 * i) s))
-unfolding pack
-getD-pack s i h = getD-packInto (bytesFor (length s)) s i h
-
 pub bytes-pack : (s : List Bool) → Bytes (pack s)
 unfolding pack
 bytes-pack s = bytes-packInto (bytesFor (length s)) s
@@ -98,10 +86,6 @@ pack-bitsOf bs b =
     (bitsOf-pack (bitsOf bs) ∙ ap (λ k. bitsOf bs ++ zeros k) z ∙ append-nil (bitsOf bs))
 
 -- ---- littleEndian
-
-length-littleEndian : (n x : ℕ) → length (littleEndian n x) ≡ n
-length-littleEndian zero x = refl
-length-littleEndian (suc n) x = ap suc (length-littleEndian n (x / 256))
 
 bytes-littleEndian : (n x : ℕ) → Bytes (littleEndian n x)
 bytes-littleEndian zero x = tt

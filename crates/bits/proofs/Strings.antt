@@ -167,3 +167,6 @@ pub same-self : (a : List Bool) → same a a ≡ true
 same-self [] = refl
 same-self (true ∷ a) = same-self a
 same-self (false ∷ a) = same-self a
+
+pub xor-four : (a b c d : List Bool) → xor (xor a b) (xor c d) ≡ xor (xor a c) (xor b d)
+xor-four a b c d = rw (xor-assoc a b (xor c d), xor-left-comm b c d, xor-assoc a c (xor b d))

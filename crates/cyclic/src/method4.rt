@@ -1,6 +1,6 @@
 // Method 4: the alternative check of a block by appendix 3, from zero and not inverted.
 use crate::tables::ibm16::IBM16;
-use registers::enter_slice16;
+use folding::enter_ibm;
 ghost use mathlib.Core.Path.{_≡_};
 ghost use Rattle.bits.specs.Bytes.{lowBits, bitsOf};
 ghost use Rattle.cyclic.specs.Check.{method4, invertIf, checkBits, Constants};
@@ -42,9 +42,8 @@ impl Cyclic4 {
         ensures { λ r. ⌜ lowBits 16 (r .register) ≡ enter (method4 .generator) (lowBits 16 (self .register)) (bitsOf (now (content .entry))) ⌝ }
     {
         let register = self.register;
-        let table = Self::table();
         Self {
-            register: enter_slice16(&table, register, content),
+            register: enter_ibm(register, content),
         }
     }
 

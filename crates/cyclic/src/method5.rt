@@ -1,6 +1,6 @@
 // Method 5: the check of a frame by appendix 1, inverted.
 use crate::tables::ccitt16::CCITT16;
-use registers::enter_slice16;
+use folding::enter_ccitt;
 ghost use mathlib.Core.Path.{_≡_};
 ghost use Rattle.bits.specs.Bytes.{lowBits, bitsOf};
 ghost use Rattle.cyclic.specs.Check.{method5, invertIf, checkBits, Constants};
@@ -42,9 +42,8 @@ impl Cyclic5 {
         ensures { λ r. ⌜ lowBits 16 (r .register) ≡ enter (method5 .generator) (lowBits 16 (self .register)) (bitsOf (now (content .entry))) ⌝ }
     {
         let register = self.register;
-        let table = Self::table();
         Self {
-            register: enter_slice16(&table, register, content),
+            register: enter_ccitt(register, content),
         }
     }
 

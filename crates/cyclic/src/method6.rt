@@ -1,6 +1,6 @@
 // Method 6: the check of a frame by appendix 2, inverted.
 use crate::tables::ieee32::IEEE32;
-use registers::enter_slice32;
+use folding::enter_ieee;
 ghost use mathlib.Core.Path.{_≡_};
 ghost use Rattle.bits.specs.Bytes.{lowBits, bitsOf};
 ghost use Rattle.cyclic.specs.Check.{method6, invertIf, checkBits, Constants};
@@ -42,9 +42,8 @@ impl Cyclic6 {
         ensures { λ r. ⌜ lowBits 32 (r .register) ≡ enter (method6 .generator) (lowBits 32 (self .register)) (bitsOf (now (content .entry))) ⌝ }
     {
         let register = self.register;
-        let table = Self::table();
         Self {
-            register: enter_slice32(&table, register, content),
+            register: enter_ieee(register, content),
         }
     }
 

@@ -22,7 +22,7 @@ use Rattle.registers.proofs.Enter.{enter-append, enter-linear, enter-ze
 -- ---- several bits at once
 
 -- bits that meet themselves in the register take the generator in nowhere: it only moves
-enter-self : (p m s : List Bool) → enter p (m ++ s) m ≡ s ++ zeros (length m)
+pub enter-self : (p m s : List Bool) → enter p (m ++ s) m ≡ s ++ zeros (length m)
 unfolding enter
 enter-self p [] s = sym (append-nil s)
 enter-self p (b ∷ m) s =
@@ -97,7 +97,7 @@ module _ (w : ℕ) (p : List Bool) (wide : length p ≡ w) where
 -- ---- bytes through the table
 
 module _ (j : ℕ) (p : List Bool) (wide : length p ≡ 8 + j) where
-  byte-entry : (register byte : ℕ) → getD (tableOf (8 + j) p) (bitXor register byte % 256) 0 ≡ entry (8 + j) p (bitXor register byte % 256)
+  pub byte-entry : (register byte : ℕ) → getD (tableOf (8 + j) p) (bitXor register byte % 256) 0 ≡ entry (8 + j) p (bitXor register byte % 256)
   byte-entry register byte = table-at (8 + j) p wide (bitXor register byte % 256) (mod-lt (bitXor register byte) (lit< tt))
 
   pub enterByTable-lt : (register byte : ℕ) → register < 2 ^ (8 + j) → enterByTable (tableOf (8 + j) p) register byte < 2 ^ (8 + j)

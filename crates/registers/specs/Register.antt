@@ -3,7 +3,7 @@ use Prim.Native.Nat.{ℕ, zero, suc, _/_, _%_}
 use mathlib.Core.Bool.{Bool, false}
 use mathlib.Core.List.{List, [], _∷_}
 use lib.Bits.{bitXor}
-use lib.ListN.{getD}
+use lib.ListN.{length, getD}
 use Rattle.bits.specs.Strings.{add, zeros}
 use Rattle.bits.specs.Bytes.{lowBits, value}
 use Rattle.division.specs.Division.{step, divide}
@@ -17,6 +17,10 @@ enterBit p (t ∷ r) b = step p (add t b ∷ r) false
 unfoldable pub enter : List Bool → List Bool → List Bool → List Bool
 enter p r [] = r
 enter p r (b ∷ bits) = enter p (enterBit p r b) bits
+
+-- the register that began empty, after the bits
+abbrev pub entered : List Bool → List Bool → List Bool
+entered p m = enter p (zeros (length p)) m
 
 -- f at the n numbers from i on
 abbrev pub tabulate : (ℕ → ℕ) → ℕ → ℕ → List ℕ

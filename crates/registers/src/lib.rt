@@ -1,7 +1,8 @@
-// Registers of 16 and 32 bits that bytes enter through a table. A table is lent, so that a loop copies none.
+// Registers of 16 and 32 bits that bytes enter one by one through a table, and the bytes of a check as they are sent. A table is
+// lent, so that a loop copies none.
 ghost use mathlib.Core.Path.{_≡_};
 ghost use Rattle.bits.specs.Bytes.{lowBits, pack};
-ghost use Rattle.registers.specs.Register.{enterByTable, enterAllByTable};
+ghost use Rattle.registers.specs.Register.{enterByTable};
 
 pub fn enter_byte16(table: &[u16; 256], register: u16, byte: u8) -> u16
     ensures { λ r. ⌜ r ≡ enterByTable (now (table .entry)) register byte ⌝ }
@@ -10,35 +11,11 @@ pub fn enter_byte16(table: &[u16; 256], register: u16, byte: u8) -> u16
     table[at as usize] ^ (register / 256)
 }
 
-pub fn enter_slice16(table: &[u16; 256], start: u16, content: &[u8]) -> u16
-    ensures { λ r. ⌜ r ≡ enterAllByTable (now (table .entry)) start (now (content .entry)) ⌝ }
-{
-    let mut register = start;
-    let mut i = 0;
-    while i < content.len() {
-        register = enter_byte16(table, register, content[i]);
-        i += 1;
-    }
-    register
-}
-
 pub fn enter_byte32(table: &[u32; 256], register: u32, byte: u8) -> u32
     ensures { λ r. ⌜ r ≡ enterByTable (now (table .entry)) register byte ⌝ }
 {
     let at = (register ^ (byte as u32)) % 256;
     table[at as usize] ^ (register / 256)
-}
-
-pub fn enter_slice32(table: &[u32; 256], start: u32, content: &[u8]) -> u32
-    ensures { λ r. ⌜ r ≡ enterAllByTable (now (table .entry)) start (now (content .entry)) ⌝ }
-{
-    let mut register = start;
-    let mut i = 0;
-    while i < content.len() {
-        register = enter_byte32(table, register, content[i]);
-        i += 1;
-    }
-    register
 }
 
 // The bytes of a check in the order sent: its first bit is the low bit of the first byte.

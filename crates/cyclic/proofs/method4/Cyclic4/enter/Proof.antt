@@ -1,21 +1,15 @@
--- `Cyclic4::enter` meets its contract: bytes that enter through the generator's table enter bit by bit. Assumes nothing.
+-- `Cyclic4::enter` meets its contract: the generator is the method's. Assumes nothing.
 use borrow.Author.Needs.{needs}
 use Rattle.cyclic.specs.Check.{method4}
-use Rattle.registers.proofs.Table.{entered-by}
-use Rattle.cyclic.proofs.Methods.{width-4}
 use Rattle.cyclic.proofs.method4.Cyclic4.enter.Statement.{statement}
 use Rattle.cyclic.proofs.method4.Cyclic4.enter.Tie as tie
 
-table-requires : tie.Need-table-requires
-table-requires c κs = search needs
-
-enter-slice16-requires : tie.Need-enter-slice16-requires
-enter-slice16-requires c κs = search needs
+enter-ibm-requires : tie.Need-enter-ibm-requires
+enter-ibm-requires c κs = search needs
 
 returns : tie.Need-returns
-returns c =
-    let a = c .before .before .before .before .args in
-    entered-by 8 (method4 .generator) (width-4 .generator .width) (a .self .register) (a .content .now) (c .before .before .table .ensures) (c .enter-slice16 .ensures) (search needs)
+unfolding method4
+returns c = c .enter-ibm .ensures
 
 pub enter-spec : {M : Type 1} → statement M
-enter-spec = tie.close (tie.spec table-requires enter-slice16-requires returns)
+enter-spec = tie.close (tie.spec enter-ibm-requires returns)

@@ -1,0 +1,10 @@
+pub mod Fold
+pub mod Turn
+pub mod Multiples
+pub mod WordLaws
+pub mod Folding
+pub mod Ccitt
+pub mod Ibm
+pub mod Ieee
+pub mod Registers
+pub mod Added

@@ -1,0 +1,63 @@
+-- Folding: where x^n is a sum of lower powers modulo the generator, 64 bits at the front of a content are taken away and added
+-- further on. Assumes nothing.
+use Prim.Native.Nat.{ℕ, _-_}
+use mathlib.Core.Bool.{Bool}
+use mathlib.Core.List.{List, [], _∷_, _++_}
+use lib.ListN.{length, take, drop}
+use Rattle.bits.specs.Strings.{xor, zeros}
+use Rattle.bits.specs.Bytes.{lowBits}
+use Rattle.division.specs.Generators.{ccitt16, ibm16}
+use Rattle.registers.specs.Register.{tableOf, enterAllByTable}
+use Rattle.folding.specs.declared.fold_ccitt.Pending256.{Pending256}
+use Rattle.folding.specs.declared.fold_ibm.Pending192.{Pending192}
+use Rattle.folding.specs.declared.fold_ieee.Pending320.{Pending320}
+use Rattle.folding.specs.declared.generator.Generator16.{Generator16}
+use Rattle.folding.specs.declared.generator.Generator16.the-variants.{Ccitt, Ibm}
+
+-- the 64 bits t times each power of es, added up in a string of n bits
+unfoldable pub spread : ℕ → List ℕ → List Bool → List Bool
+spread n [] t = zeros n
+spread n (e ∷ es) t = xor (zeros (n - e - 64) ++ (t ++ zeros e)) (spread n es t)
+
+-- words as bits
+unfoldable pub wordBits : List ℕ → List Bool
+wordBits [] = []
+wordBits (w ∷ ws) = lowBits 64 w ++ wordBits ws
+
+-- what is yet to be added to the next n bits, after one word more
+unfoldable pub foldedBits : ℕ → List ℕ → List Bool → List Bool → List Bool
+foldedBits n es pending word = xor (spread n es (xor (take 64 pending) word)) (drop 64 pending ++ zeros 64)
+
+-- bits with what is yet to be added to them, as far as they go
+unfoldable pub added : List Bool → List Bool → List Bool
+added pending m = xor (pending ++ zeros (length m)) m
+
+-- ---- the multiples of the generators: x^256 = x^192 + x^80 + 1; x^192 = x^128 + x^80 + x^72 + x^16 + x^8;
+-- x^320 = x^175 + x^137 + x^109 + x^20
+
+abbrev pub ccittPowers : List ℕ
+ccittPowers = 192 ∷ 80 ∷ 0 ∷ []
+
+abbrev pub ibmPowers : List ℕ
+ibmPowers = 128 ∷ 80 ∷ 72 ∷ 16 ∷ 8 ∷ []
+
+abbrev pub ieeePowers : List ℕ
+ieeePowers = 175 ∷ 137 ∷ 109 ∷ 20 ∷ []
+
+-- what is yet to be added, as the code holds it
+abbrev pub bits256 : Pending256 → List Bool
+bits256 f = wordBits (f .a ∷ f .b ∷ f .c ∷ f .d ∷ [])
+
+abbrev pub bits192 : Pending192 → List Bool
+bits192 f = wordBits (f .a ∷ f .b ∷ f .c ∷ [])
+
+abbrev pub bits320 : Pending320 → List Bool
+bits320 f = wordBits (f .a ∷ f .b ∷ f .c ∷ f .d ∷ f .e ∷ [])
+
+abbrev pub generatorOf : Generator16 → List Bool
+generatorOf Ccitt = ccitt16
+generatorOf Ibm = ibm16
+
+-- the register after bytes, as a number: the one that the generator's table gives
+abbrev pub registerAfter : Generator16 → ℕ → List ℕ → ℕ
+registerAfter g = enterAllByTable (tableOf 16 (generatorOf g))

@@ -1,0 +1,120 @@
+// A whole slice entered by folding: modulo the generator of method 4, x^184 = x^120 + x^72 + x^64 + x^8 + 1. So a word at the front
+// of a content is taken away and added 8, 14, 15, 22 and 23 bytes further on.
+use crate::Partly16;
+use crate::words::low_byte;
+use crate::words::word_at;
+use crate::words::words_before;
+use quotient::ibm::enter_byte;
+use quotient::ibm::enter_word;
+ghost use mathlib.Core.Path.{_≡_};
+ghost use mathlib.Core.List.{[], _∷_, _++_};
+ghost use Prim.Native.Nat.{_+_, _*_, _/_, _<_, _≤_};
+ghost use lib.ListN.{length, drop};
+ghost use Rattle.bits.specs.Strings.{zeros};
+ghost use Rattle.bits.specs.Bytes.{lowBits, bitsOf};
+ghost use Rattle.division.specs.Generators.{ibm16};
+ghost use Rattle.registers.specs.Register.{enter, entered};
+ghost use Rattle.folding.specs.Fold.{added, foldedBits, wordBits, ibmPowers, bits192};
+
+// Shorter contents are entered as fast without folding.
+const FOLDED_FROM: usize = 48;
+
+// The bytes to which something may be pending.
+const PENDING: usize = 24;
+
+// What is yet to be added to the next 192 bits.
+pub struct Pending192 {
+    pub a: u64,
+    pub b: u64,
+    pub c: u64,
+}
+
+fn fold_word(f: Pending192, word: u64) -> Pending192
+    ensures { λ r. ⌜ bits192 r ≡ foldedBits 192 ibmPowers (bits192 f) (lowBits 64 word) ⌝ }
+{
+    let t = f.a ^ word;
+    let low = (t << 48) ^ (t << 56);
+    Pending192 {
+        a: (t ^ low) ^ f.b,
+        b: ((t >> 16) ^ ((t >> 8) ^ low)) ^ f.c,
+        c: (t >> 16) ^ (t >> 8),
+    }
+}
+
+// The first words of a content folded into what follows them.
+fn fold_words(start: u16, content: &[u8], words: usize) -> Pending192
+    requires { ⌜ (8 ≤ length (now content)) × (0 < words → 8 * words + 24 ≤ length (now content)) ⌝ }
+    ensures { λ r. ⌜ entered ibm16 (added (bits192 r) (bitsOf (drop (8 * words) (now (content .entry))))) ≡ enter ibm16 (lowBits 16 start) (bitsOf (now (content .entry))) ⌝ }
+{
+    let mut f = Pending192 {
+        a: start as u64,
+        b: 0,
+        c: 0,
+    };
+    let mut i = 0;
+    while i < words {
+        f = fold_word(f, word_at(content, 8 * i));
+        i += 1;
+    }
+    f
+}
+
+// What is pending behind a word.
+fn behind_word(f: Pending192) -> Pending192
+    ensures { λ r. ⌜ bits192 r ≡ wordBits (f .b ∷ f .c ∷ []) ++ zeros 64 ⌝ }
+{
+    Pending192 {
+        a: f.b,
+        b: f.c,
+        c: 0,
+    }
+}
+
+// All words of a content entered into an empty register, each with what is yet to be added to it.
+fn enter_words(first: Pending192, content: &[u8]) -> Partly16
+    ensures { λ r. ⌜ enter ibm16 (lowBits 16 (r .register)) (added (lowBits 64 (r .pending)) (bitsOf (drop (8 * (length (now (content .entry)) / 8)) (now (content .entry))))) ≡ entered ibm16 (added (bits192 first) (bitsOf (now (content .entry)))) ⌝ }
+{
+    let words = content.len() / 8;
+    let mut register: u16 = 0;
+    let mut f = first;
+    let mut i = 0;
+    while i < words {
+        register = enter_word(register, f.a ^ word_at(content, 8 * i));
+        f = behind_word(f);
+        i += 1;
+    }
+    Partly16 {
+        register,
+        pending: f.a,
+    }
+}
+
+// Bytes entered one by one, each with what is yet to be added to it.
+fn enter_bytes(start: u16, pending: u64, content: &[u8]) -> u16
+    ensures { λ r. ⌜ lowBits 16 r ≡ enter ibm16 (lowBits 16 start) (added (lowBits 64 pending) (bitsOf (now (content .entry)))) ⌝ }
+{
+    let mut register = start;
+    let mut rest = pending;
+    let mut i = 0;
+    while i < content.len() {
+        register = enter_byte(register, low_byte(rest) ^ content[i]);
+        rest = rest / 256;
+        i += 1;
+    }
+    register
+}
+
+// A slice entered into a register of method 4.
+pub fn enter_ibm(start: u16, content: &[u8]) -> u16
+    ensures { λ r. ⌜ lowBits 16 r ≡ enter ibm16 (lowBits 16 start) (bitsOf (now (content .entry))) ⌝ }
+{
+    if content.len() < 8 {
+        return enter_bytes(start, 0, content);
+    }
+    let words = words_before(content.len(), FOLDED_FROM, PENDING);
+    let f = fold_words(start, content, words);
+    let at = 8 * words;
+    let left = enter_words(f, &content[at..]);
+    let tail = content.len() / 8 * 8;
+    enter_bytes(left.register, left.pending, &content[tail..])
+}

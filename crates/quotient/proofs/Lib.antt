@@ -1,0 +1,2 @@
+pub mod WordMaps
+pub mod Quotients
