@@ -13,8 +13,10 @@ use Rattle.bits.proofs.Bytes.{length-lowBits, lowBits-append, lowBits-mod, lowB
 use Rattle.bits.proofs.Strings.{xor-comm, xor-assoc, xor-zeros, length-xor}
 use Rattle.bits.proofs.Packing.{length-pack}
 use Rattle.cyclic.specs.Check.{Parameters, invertIf, checkBits, method3, method4}
-use Rattle.registers.specs.Register.{tableOf, enterAllByTable}
+use Rattle.registers.specs.Register.{tableOf}
 use Rattle.cyclic.specs.Laws.{OfWidth}
+use Rattle.folding.specs.declared.generator.Generator16.{Generator16}
+use Rattle.folding.specs.Fold.{generatorOf, registerAfter}
 use Rattle.registers.proofs.Table.{entered-by}
 use Rattle.cyclic.proofs.Checks.{length-check}
 use Rattle.cyclic.proofs.Methods.{check-of, width-3, width-4}
@@ -34,22 +36,12 @@ pub start-4 : lowBits 16 0 ≡ method4 .start
 unfolding lowBits method4
 start-4 = refl
 
--- bytes that enter a register through a table
-pub enterAll-nil : (table : List ℕ) (a : ℕ) → enterAllByTable table a [] ≡ a
-unfolding enterAllByTable
-enterAll-nil table a = refl
-
-pub enterAll-append : (table : List ℕ) (a : ℕ) (xs ys : List ℕ) → enterAllByTable table a (xs ++ ys) ≡ enterAllByTable table (enterAllByTable table a xs) ys
-unfolding enterAllByTable
-enterAll-append table a [] ys = refl
-enterAll-append table a (x ∷ xs) ys = enterAll-append table _ xs ys
-
 -- a register that began at a method's start, and the number made of it, hold the check of the bytes that entered
-pub register-check : (m : Parameters) → OfWidth 16 m → (bs : List ℕ) (check : ℕ) {start register : ℕ} {table : List ℕ}
-    → lowBits 16 start ≡ m .start → start < 2 ^ 16 → table ≡ tableOf 16 (m .generator) → register ≡ enterAllByTable table start bs
+pub register-check : (m : Parameters) → OfWidth 16 m → (g : Generator16) → generatorOf g ≡ m .generator → (bs : List ℕ) (check : ℕ) {start register : ℕ}
+    → lowBits 16 start ≡ m .start → start < 2 ^ 16 → register ≡ registerAfter g start bs
     → lowBits 16 check ≡ invertIf (m .inverted) (lowBits 16 register) → lowBits 16 check ≡ checkBits m (bitsOf bs)
-register-check m o bs check {start} {register} began fits t r k =
-    check-of 16 m o (lit< tt) (bitsOf bs) start register check began (entered-by 8 (m .generator) (o .generator .width) start bs t r fits) k
+register-check m o g e bs check {start} {register} began fits r k =
+    check-of 16 m o (lit< tt) (bitsOf bs) start register check began (entered-by 8 (m .generator) (o .generator .width) start bs (ap (tableOf 16) e) r fits) k
 
 -- ---- the matrix's check character
 

@@ -1,7 +1,8 @@
 -- The seven signs (document 01, part 1; 003 calls them НЗ, НТ, КТ, АР1, СИН, КБ, РИ1). No other definition names their values.
 -- Assumes nothing.
-use Prim.Native.Nat.{ℕ}
+use Prim.Native.Nat.{ℕ, _<_}
 use mathlib.Core.Bool.{cond}
+use lib.Bits.{bitXor}
 use lib.Dec.{eqb}
 use Rattle.block.specs.declared.EndSign.{EndSign}
 use Rattle.block.specs.declared.EndSign.the-variants.{Etx, Etb, Us}
@@ -40,6 +41,16 @@ signOf b =
     (cond (eqb b SYN) syn
     (cond (eqb b ETB) etb
     (cond (eqb b US) us other))))))
+
+-- a byte that differs from every sign, as code sees it
+pub record OffSigns (c : ℕ) : Type 0 where
+  pub soh : 0 < bitXor c SOH
+  pub stx : 0 < bitXor c STX
+  pub etx : 0 < bitXor c ETX
+  pub dle : 0 < bitXor c DLE
+  pub syn : 0 < bitXor c SYN
+  pub etb : 0 < bitXor c ETB
+  pub us : 0 < bitXor c US
 
 abbrev pub endByte : EndSign → ℕ
 endByte Etx = ETX

@@ -52,7 +52,7 @@ syn-test b =
     else-test isSyn b SYN ETB etb _ refl (λ _.
     else-test isSyn b SYN US us _ refl (λ _. e)))))))
 
-dle-test : (b : ℕ) → eqb b DLE ≡ isDle (signOf b)
+pub dle-test : (b : ℕ) → eqb b DLE ≡ isDle (signOf b)
 unfolding signOf
 dle-test b =
     else-test isDle b DLE SOH soh _ refl (λ _.

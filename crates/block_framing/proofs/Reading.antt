@@ -8,6 +8,10 @@ use mathlib.Core.Bool.{Bool, true, false, cond}
 use mathlib.Core.List.{List, [], _∷_}
 use lib.Dec.{eqb, leb}
 use lib.ListN.{length, getD, take, drop, drop-of-length-le}
+use Prim.Native.Nat.{zero, suc}
+use native.Mathlib.Nat.{add-zero}
+use mathlib.Core.Path.{subst}
+use Rattle.block_framing.specs.Runs.{Run}
 use lib.Seq.{drop-cons, slice}
 use borrow.Author.Tests.{eq-eqb, ne-eqb, le-leb, lt-leb}
 use Rattle.block.specs.declared.Method.{Method}
@@ -69,13 +73,20 @@ module _ {p : Parity} {line : List ℕ} {i : ℕ} (w : Searching p line i) where
   pub search-ends : length line ≤ i → i ≡ wrongFrom p 0 line
   search-ends h = sym (ap (wrongFrom p i) (drop-of-length-le line h)) ∙ w .rest
 
-wrong-at-least : (p : Parity) (at : ℕ) (l : List ℕ) → at ≤ wrongFrom p at l
-wrong-at-least p at [] = omega arith
-wrong-at-least p at (b ∷ l) = go (parityRight p b) (wrong-at-least p (at + 1) l)
-  where
-    go : (t : Bool) → at + 1 ≤ wrongFrom p (at + 1) l → at ≤ cond t (wrongFrom p (at + 1) l) at
-    go true h = omega arith
-    go false h = omega arith
+-- a run of right parities
+search-runs : {p : Parity} {line : List ℕ} (n : ℕ) {i : ℕ} → Searching p line i → Run (λ k. parityRight p (getD line k 0) ≡ true) (length line) i (i + n)
+    → Searching p line (i + n)
+search-runs zero {i} w r = rw (add-zero i) w
+search-runs {p} {line} (suc n) {i} w r =
+    let e : i + 1 + n ≡ i + suc n = omega arith in
+    let next = search-on w (omega (arith, r .within)) refl (r .all i (omega arith) (omega arith)) in
+    let rest : Run (λ k. parityRight p (getD line k 0) ≡ true) (length line) (i + 1) (i + 1 + n) =
+    record { on = omega arith; within = omega (arith, r .within); all = λ k l m. r .all k (omega arith) (omega arith) } in
+    subst (λ (m : ℕ). Searching p line m) e (search-runs n next rest)
+
+pub sixteen-on : {p : Parity} {line : List ℕ} {i : ℕ} → Searching p line i → Run (λ k. parityRight p (getD line k 0) ≡ true) (length line) i (i + 16)
+    → Searching p line (i + 16)
+sixteen-on w r = search-runs 16 w r
 
 pub parities-wrong : (p : Parity) (l : List ℕ) (at : ℕ) (next : Framed) → wrongFrom p at l < at + length l → askParities p l at next ≡ unframed 12 (wrongFrom p at l)
 parities-wrong p [] at next h = absurd (omega arith)

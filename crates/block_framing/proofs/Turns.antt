@@ -1,13 +1,18 @@
--- The walk's loop: its invariant, where it begins, a turn, and its ends. Assumes nothing.
-use mathlib.Core.Path.{_≡_, refl, sym, ap, _∙_}
-use Prim.Native.Nat.{ℕ, _+_, _≤_, _<_}
+-- The walk's loop: its invariant, where it begins, a turn, and its ends; runs of data, which it passes over at once, and the scans
+-- that find them. Assumes nothing.
+use mathlib.Core.Path.{_≡_, refl, sym, ap, ap₂, subst, _∙_}
+use Prim.Native.Nat.{ℕ, zero, suc, _+_, _-_, _≤_, _<_}
+use native.Mathlib.Nat.{add-zero}
 use native.Mathlib.Numerals.{add-one}
 use native.Mathlib.Omega.{arith}
-use mathlib.Core.Bool.{Bool, true, false, cond}
+use mathlib.Core.Bool.{Bool, true, false, true≢false, cond, _&&_}
 use mathlib.Core.List.{List}
-use lib.Dec.{eqb}
+use lib.Bits.{bitXor, xor-self}
+use lib.Dec.{eqb, ltb}
 use lib.ListN.{length, getD, drop, drop-of-length-le}
 use lib.Seq.{drop-cons}
+use borrow.Author.Count.{below-more}
+use borrow.Author.Tests.{ltb-true, ltb-false, ne-eqb}
 use Rattle.block.specs.declared.EndSign.{EndSign}
 use Rattle.block.specs.declared.Mark.{Mark}
 use Rattle.block.specs.declared.Mark.the-variants.{LeftOut, HeaderByte, TextByte, InnerStart, End}
@@ -15,12 +20,16 @@ use Rattle.block.specs.declared.Field.{Field}
 use Rattle.block.specs.declared.Field.the-variants.{Start, StartDle, Header, HeaderDle, Text, Clear, ClearDle}
 use Rattle.block.specs.declared.Judged.{Judged}
 use Rattle.block.specs.declared.Judged.the-variants.{Is, Ends}
-use Rattle.block.specs.Signs.{signOf}
+use Rattle.block.specs.Signs.{DLE, US, Sign, soh, stx, etx, dle, syn, etb, us, other, signOf, OffSigns}
 use Rattle.block.specs.Characters.{character}
 use Rattle.block.specs.Walk.{halt, cut, onward, judge, walk}
+use Rattle.block.specs.Write.{isOther}
+use Rattle.block.proofs.NoSign.{NoSign, no-sign, off-none, above-none}
 use Rattle.block_framing.specs.declared.Tally.{Tally}
 use Rattle.block_framing.specs.declared.Framing.{Framing}
 use Rattle.block_framing.specs.Framings.{noTally, addMark, framingAt, framed, stopped, walkAnswer, Small}
+use Rattle.block_framing.specs.Runs.{isClearData, dataMark, Run, IsData, addRun}
+use Rattle.block_framing.proofs.KeptBySign.{isDle, dle-test}
 
 -- ---- the tally stays below the place
 
@@ -43,6 +52,9 @@ small-add-mark End t i s = record { inner = omega arith; header = omega arith; t
 
 pub small-widen : (t : Tally) (i n : ℕ) → i ≤ n → Small t i → Small t n
 small-widen t i n h s = record { inner = omega (arith, s .inner); header = omega arith; text = omega arith; counted = omega arith }
+
+pub small-marked : {k : Mark} {g : Field} {j : Judged} {t u : Tally} {i : ℕ} (n : ℕ) → j ≡ Is k g → u ≡ addMark k i t → Small t i → i + 1 ≤ n → Small u n
+small-marked {k} {t = t} {i = i} n q e s h = rw e (small-widen (addMark k i t) (i + 1) n h (small-add-mark k t i s))
 
 -- a line that is cut is refused, whatever was counted
 pub cut-anywhere : (t : Tally) (i : ℕ) (f : Field) → stopped noTally 0 (cut f) ≡ walkAnswer t i (halt (cut f))
@@ -97,3 +109,161 @@ module _ {seven : Bool} {line : List ℕ} {t : Tally} {f : Field} {i : ℕ} (w :
     pub ends : {e : EndSign} {u : Tally} {r : Framing} → j ≡ Ends e → u ≡ addMark End i t → r ≡ framingAt f e u (i + 1)
         → framed r ≡ walkAnswer noTally 0 (walk seven line 0 Start)
     ends {e} q b x = ap framed (x ∙ ap (λ u. framingAt f e u (i + 1)) b) ∙ turned (Ends e) q
+
+-- ---- runs of data
+
+-- which signs are data
+module _ (seven : Bool) where
+  header-data : (s : Sign) → isOther s ≡ true → judge seven Header s ≡ Is HeaderByte Header
+  header-data soh e = absurd (true≢false (sym e))
+  header-data stx e = absurd (true≢false (sym e))
+  header-data etx e = absurd (true≢false (sym e))
+  header-data dle e = absurd (true≢false (sym e))
+  header-data syn e = absurd (true≢false (sym e))
+  header-data etb e = absurd (true≢false (sym e))
+  header-data us e = absurd (true≢false (sym e))
+  header-data other e = refl
+
+  text-data : (s : Sign) → isOther s ≡ true → judge seven Text s ≡ Is TextByte Text
+  text-data soh e = absurd (true≢false (sym e))
+  text-data stx e = absurd (true≢false (sym e))
+  text-data etx e = absurd (true≢false (sym e))
+  text-data dle e = absurd (true≢false (sym e))
+  text-data syn e = absurd (true≢false (sym e))
+  text-data etb e = absurd (true≢false (sym e))
+  text-data us e = absurd (true≢false (sym e))
+  text-data other e = refl
+
+  clear-data : (s : Sign) → isClearData s ≡ true → judge seven Clear s ≡ Is TextByte Clear
+  clear-data soh e = refl
+  clear-data stx e = refl
+  clear-data etx e = refl
+  clear-data dle e = absurd (true≢false (sym e))
+  clear-data syn e = refl
+  clear-data etb e = refl
+  clear-data us e = refl
+  clear-data other e = refl
+
+pub run-map : {P Q : ℕ → Type 0} {size from end : ℕ} → Run P size from end → ((k : ℕ) → P k → Q k) → Run Q size from end
+run-map r f = record { on = r .on; within = r .within; all = λ k l h. f k (r .all k l h) }
+
+pub run-none : {P : ℕ → Type 0} {size from : ℕ} → from ≤ size → Run P size from from
+run-none h = record { on = omega arith; within = h; all = λ k l m. absurd (omega arith) }
+
+pub run-more : {P : ℕ → Type 0} {size from end : ℕ} → Run P size from end → end < size → P end → Run P size from (end + 1)
+run-more {P} {size} {from} {end} r h x =
+    record {
+      on = omega (arith, r .on);
+      within = omega arith;
+      all = λ k l m. below-more (λ i. from ≤ i → P i) end (λ i q z. r .all i z q) (λ z. x) k m l;
+    }
+
+pub run-shift : {P : ℕ → Type 0} {size from end other : ℕ} → end ≡ other → Run P size from end → Run P size from other
+run-shift {P} {size} {from} e r = subst (λ (n : ℕ). Run P size from n) e r
+
+pub run-join : {P : ℕ → Type 0} {size from middle end : ℕ} → Run P size from middle → Run P size middle end → Run P size from end
+run-join {P} {size} {from} {middle} {end} r s =
+    record { on = omega (arith, r .on, s .on); within = s .within; all = λ k l m. go k l m (ltb k middle) refl }
+  where
+    go : (k : ℕ) → from ≤ k → k < end → (t : Bool) → ltb k middle ≡ t → P k
+    go k l m true e = r .all k l (ltb-true k middle e)
+    go k l m false e = s .all k (ltb-false k middle e) m
+
+-- as many marks of data
+add-none : (f : Field) (t : Tally) → addRun f 0 t ≡ t
+add-none Start t = refl
+add-none StartDle t = refl
+add-none Header t = ap₂ (λ h n. record { inner = t .inner; header = h; text = t .text; counted = n }) (add-zero (t .header)) (add-zero (t .counted))
+add-none HeaderDle t = refl
+add-none Text t = ap₂ (λ h n. record { inner = t .inner; header = t .header; text = h; counted = n }) (add-zero (t .text)) (add-zero (t .counted))
+add-none Clear t = ap₂ (λ h n. record { inner = t .inner; header = t .header; text = h; counted = n }) (add-zero (t .text)) (add-zero (t .counted))
+add-none ClearDle t = refl
+
+one-before : (a n : ℕ) → a + 1 + n ≡ a + suc n
+one-before a n = omega arith
+
+add-one-more : (f : Field) (n i : ℕ) (t : Tally) → addRun f n (addMark (dataMark f) i t) ≡ addRun f (suc n) t
+add-one-more Start n i t = refl
+add-one-more StartDle n i t = refl
+add-one-more Header n i t = ap₂ (λ h m. record { inner = t .inner; header = h; text = t .text; counted = m }) (one-before (t .header) n) (one-before (t .counted) n)
+add-one-more HeaderDle n i t = refl
+add-one-more Text n i t = ap₂ (λ h m. record { inner = t .inner; header = t .header; text = h; counted = m }) (one-before (t .text) n) (one-before (t .counted) n)
+add-one-more Clear n i t = ap₂ (λ h m. record { inner = t .inner; header = t .header; text = h; counted = m }) (one-before (t .text) n) (one-before (t .counted) n)
+add-one-more ClearDle n i t = refl
+
+-- the walk passes over a run
+passes : {seven : Bool} {line : List ℕ} (n : ℕ) {t : Tally} {f : Field} {i : ℕ} → Walking seven line t f i → Run (IsData seven f line) (length line) i (i + n)
+    → Walking seven line (addRun f n t) f (i + n)
+passes {seven} {line} zero {t} {f} {i} w r = rw (add-none f t, add-zero i) w
+passes {seven} {line} (suc n) {t} {f} {i} w r =
+    let below : i < length line = omega (arith, r .within) in
+    let step = on w below refl refl (r .all i (omega arith) (omega arith)) refl in
+    let rest : Run (IsData seven f line) (length line) (i + 1) (i + 1 + n) =
+    record { on = omega arith; within = omega (arith, r .within); all = λ k l m. r .all k (omega arith) (omega arith) } in
+    rw (← add-one-more f n i t, ← one-before i n) (passes n step rest)
+
+pub pass : {seven : Bool} {line : List ℕ} {t u : Tally} {f : Field} {i end : ℕ} → Walking seven line t f i → Run (IsData seven f line) (length line) i end
+    → u ≡ addRun f (end - i) t → Walking seven line u f end
+pass {seven} {line} {t} {u} {f} {i} {end} w r e =
+    let s : i + (end - i) ≡ end = omega (arith, r .on) in
+    let m : Run (IsData seven f line) (length line) i (i + (end - i)) = rw s r in
+    rw e (subst (λ (n : ℕ). Walking seven line (addRun f (end - i) t) f n) s (passes (end - i) w m))
+
+-- the run of each field
+pub header-run : (seven : Bool) (line : List ℕ) {from end : ℕ} {f : Field} → f ≡ Header
+    → Run (λ k. isOther (signOf (character seven (getD line k 0))) ≡ true) (length line) from end → Run (IsData seven f line) (length line) from end
+header-run seven line e r = rw e (run-map r (λ k. header-data seven (signOf (character seven (getD line k 0)))))
+
+pub text-run : (seven : Bool) (line : List ℕ) {from end : ℕ} {f : Field} → f ≡ Text
+    → Run (λ k. isOther (signOf (character seven (getD line k 0))) ≡ true) (length line) from end → Run (IsData seven f line) (length line) from end
+text-run seven line e r = rw e (run-map r (λ k. text-data seven (signOf (character seven (getD line k 0)))))
+
+pub clear-run : (seven : Bool) (line : List ℕ) {from end : ℕ} {f : Field} → f ≡ Clear
+    → Run (λ k. isClearData (signOf (character seven (getD line k 0))) ≡ true) (length line) from end → Run (IsData seven f line) (length line) from end
+clear-run seven line e r = rw e (run-map r (λ k. clear-data seven (signOf (character seven (getD line k 0)))))
+
+-- ---- scans
+
+-- a loop over 16 places after i of them: where `Ok` holds, P holds at each of these
+pub record Sixteen (Ok : Type 0) (P : ℕ → Type 0) (size at i : ℕ) : Type 0 where
+  pub within : i ≤ 16
+  pub run : Ok → Run P size at (at + i)
+
+module _ {Ok : Type 0} {P : ℕ → Type 0} {size at : ℕ} where
+  pub sixteen-begin : at + 16 ≤ size → Sixteen Ok P size at 0
+  sixteen-begin h = record { within = omega arith; run = λ k. rw (add-zero at) (run-none (omega arith)) }
+
+  pub sixteen-turn : {Next : Type 0} {i : ℕ} → Sixteen Ok P size at i → at + 16 ≤ size → i < 16 → (Next → Ok × P (at + i)) → Sixteen Next P size at (i + 1)
+  sixteen-turn {Next} {i} s h l f =
+      record { within = omega arith; run = λ k. run-shift (omega arith) (run-more (s .run (f k .0)) (omega arith) (f k .1)) }
+
+  pub sixteen-end : {i : ℕ} → Sixteen Ok P size at i → 16 ≤ i → Ok → Run P size at (at + 16)
+  sixteen-end s h k = run-shift (omega arith) (s .run k)
+
+-- which characters are data: in header and plain text what is no sign, in clear text all but DLE
+plain-data : (c : ℕ) → NoSign c → isOther (signOf c) ≡ true
+plain-data c h = ap isOther (no-sign c h)
+
+pub off-data : (c : ℕ) → OffSigns c → isOther (signOf c) ≡ true
+off-data c h = plain-data c (off-none c h)
+
+pub above-data : (c : ℕ) → US < c → isOther (signOf c) ≡ true
+above-data c h = plain-data c (above-none c h)
+
+no-dle-data : (s : Sign) → isDle s ≡ false → isClearData s ≡ true
+no-dle-data soh e = refl
+no-dle-data stx e = refl
+no-dle-data etx e = refl
+no-dle-data dle e = sym e
+no-dle-data syn e = refl
+no-dle-data etb e = refl
+no-dle-data us e = refl
+no-dle-data other e = refl
+
+pub off-dle-data : (c : ℕ) → 0 < bitXor c DLE → isClearData (signOf c) ≡ true
+off-dle-data c h =
+    no-dle-data (signOf c) (sym (dle-test c) ∙ ne-eqb c DLE (λ e. omega (arith, ap (λ x. bitXor x DLE) e ∙ xor-self DLE)))
+
+pub both : (a b : Bool) → (a && b) ≡ true → (a ≡ true) × (b ≡ true)
+both true b e = (refl, e)
+both false b e = absurd (true≢false (sym e))

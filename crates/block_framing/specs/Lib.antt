@@ -1,1 +1,2 @@
 pub mod Framings
+pub mod Runs

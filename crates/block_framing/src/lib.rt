@@ -37,6 +37,8 @@ pub enum WalkEnd {
 
 mod judge;
 mod questions;
+mod run;
+mod scan;
 mod walk;
 
 pub use questions::find_framing;

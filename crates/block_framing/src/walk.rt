@@ -3,6 +3,8 @@ use crate::Framing;
 use crate::Tally;
 use crate::WalkEnd;
 use crate::judge::judge;
+use crate::run::add_run;
+use crate::run::run_end;
 use block::BytePlace;
 use block::EndSign;
 use block::Field;
@@ -160,8 +162,11 @@ pub fn walk(seven: bool, line: &[u8]) -> WalkEnd
     while i < line.len() {
         match judge(seven, f, character(seven, line[i])) {
             Judged::Is(k, g) => {
-                t = add_mark(k, i, t);
+                let next = i + 1;
+                let end = run_end(seven, g, line, next);
+                t = add_run(g, end - next, add_mark(k, i, t));
                 f = g;
+                i = end;
             }
             Judged::Ends(e) => {
                 let counted = add_mark(Mark::End, i, t);
@@ -177,7 +182,6 @@ pub fn walk(seven: bool, line: &[u8]) -> WalkEnd
                 return WalkEnd::Refused(ReadRefusal::OutOfPlace(BytePlace(place_before(i))));
             }
         }
-        i += 1;
     }
     cut(f)
 }

@@ -1,5 +1,4 @@
 -- `first_wrong` meets its contract. The loop's invariant: the search from here on gives the whole. The measure is what is left. Assumes nothing.
-use mathlib.Core.Path.{refl}
 use Prim.Native.Nat.{_-_}
 use native.Mathlib.Omega.{arith}
 use lib.ListN.{length}
@@ -15,8 +14,11 @@ Inv-loop p line i₀ i = Searching p line i
 abbrev μ-loop : tie.MeasureT-loop
 μ-loop p line i₀ i = length line - i
 
+right-up-to-requires : tie.Need-right-up-to-requires Inv-loop μ-loop
+right-up-to-requires c κs = search needs
+
 loop-holds : tie.Need-loop-holds Inv-loop μ-loop
-loop-holds c = record { within = omega arith; rest = refl }
+loop-holds c = record { within = c .right-up-to .ensures .0; rest = c .right-up-to .ensures .1 }
 
 shared-slice-read-parity-right : tie.Need-shared-slice-read-parity-right Inv-loop μ-loop
 shared-slice-read-parity-right c = search needs
@@ -45,6 +47,7 @@ first-wrong-spec =
     (tie.spec
     Inv-loop
     μ-loop
+    right-up-to-requires
     loop-holds
     shared-slice-read-parity-right
     parity-right-requires

@@ -6,7 +6,7 @@ use lib.ListN.{length}
 use Rattle.block.specs.declared.Mark.the-variants.{End}
 use Rattle.block.specs.declared.Judged.the-variants.{NoStart, OutOfPlace, DleOutOfPlace}
 use Rattle.block_framing.specs.Framings.{addMark, refusal}
-use Rattle.block_framing.proofs.Turns.{Walking, begin, small-add-mark, small-widen, on, ends, turned, out, cut-anywhere}
+use Rattle.block_framing.proofs.Turns.{Walking, begin, small-add-mark, small-widen, small-marked, on, pass, ends, turned, out, cut-anywhere}
 use borrow.Author.Needs.{needs}
 use Rattle.block_framing.proofs.walk.walk.Statement.{statement}
 use Rattle.block_framing.proofs.walk.walk.Tie as tie
@@ -32,10 +32,35 @@ judge-requires c κs = search needs
 enum-known-k : tie.Need-enum-known-k Inv-loop μ-loop
 enum-known-k c = search needs
 
+add-next : tie.Need-add-next Inv-loop μ-loop
+add-next c = omega arith
+
+run-end-requires : tie.Need-run-end-requires Inv-loop μ-loop
+run-end-requires c κs = search needs
+
+sub-add-run : tie.Need-sub-add-run Inv-loop μ-loop
+sub-add-run c = omega (arith, c .run-end .ensures .on)
+
 add-mark-requires : tie.Need-add-mark-requires Inv-loop μ-loop
 add-mark-requires c κs =
-    let l = c .before .before .before .before .before .before .before in
+    let l = c .before .before .before .before .before .before .before .before in
     small-widen (l .loop .t) (l .loop .i) 16384 (omega (arith, l .loop .inv .within, l .loop .inv .size)) (l .loop .inv .small)
+
+add-run-requires : tie.Need-add-run-requires Inv-loop μ-loop
+add-run-requires c κs =
+    let l = c .before .before .before .before .before .before .before .before .before in (
+      small-marked 16384 (c .before .before .before .k .given .1) (c .add-mark .ensures) (l .loop .inv .small) (omega (arith, c .before .before .before .before .before .before .before .before .loop-test .taken, l .loop .inv .size)),
+      omega (arith, c .before .run-end .ensures .within, l .loop .inv .size),
+    )
+
+loop-less : tie.Need-loop-less Inv-loop μ-loop
+loop-less c = omega (arith, c .before .before .run-end .ensures .on, c .before .before .before .before .before .before .before .before .before .loop-test .taken)
+
+loop-again : tie.Need-loop-again Inv-loop μ-loop
+loop-again c =
+    let l = c .before .before .before .before .before .before .before .before .before .before in
+    pass (on (l .loop .inv) (c .before .before .before .before .before .before .before .before .before .loop-test .taken) (c .before .before .before .before .before .before .before .character .ensures) (c .before .before .before .before .before .before .judge .ensures) (c .before .before .before .before .k .given .1) (c .before .add-mark .ensures))
+    (c .before .before .run-end .ensures) (c .add-run .ensures)
 
 enum-known-e : tie.Need-enum-known-e Inv-loop μ-loop
 enum-known-e c = search needs
@@ -88,17 +113,6 @@ returns-4 c =
     let l = c .before .before .before .before .before .before .before in
     ap (λ n. refusal 14 n) (c .place-before .ensures) ∙ turned (l .loop .inv) (c .before .before .before .before .before .before .loop-test .taken) (c .before .before .before .before .character .ensures) (c .before .before .before .judge .ensures) DleOutOfPlace (c .before .enum-told3 .given .1)
 
-add-i : tie.Need-add-i Inv-loop μ-loop
-add-i c = omega arith
-
-loop-less : tie.Need-loop-less Inv-loop μ-loop
-loop-less c = omega arith
-
-loop-again : tie.Need-loop-again Inv-loop μ-loop
-loop-again c =
-    let l = c .before .before .before .before .before .before .before .before in
-    on (l .loop .inv) (c .before .before .before .before .before .before .before .loop-test .taken) (c .before .before .before .before .before .character .ensures) (c .before .before .before .before .judge .ensures) (c .before .before .k .given .1) (c .add-mark .ensures)
-
 cut-requires : tie.Need-cut-requires Inv-loop μ-loop
 cut-requires c κs = search needs
 
@@ -118,7 +132,13 @@ walk-spec =
     character-requires
     judge-requires
     enum-known-k
+    add-next
+    run-end-requires
+    sub-add-run
     add-mark-requires
+    add-run-requires
+    loop-less
+    loop-again
     enum-known-e
     add-mark-requires-2
     add-framing-at
@@ -131,8 +151,5 @@ walk-spec =
     enum-told-3
     place-before-requires
     returns-4
-    add-i
-    loop-less
-    loop-again
     cut-requires
     returns-5)

@@ -1,0 +1,66 @@
+-- `least_off_dle` meets its contract. The loop's invariant: where the least is not 0, every place passed holds data. Assumes nothing.
+use mathlib.Core.Path.{_≡_}
+use Prim.Native.Nat.{_-_, _<_}
+use native.Mathlib.Omega.{arith}
+use mathlib.Core.Bool.{true}
+use lib.ListN.{length, getD}
+use borrow.Author.Needs.{needs}
+use Rattle.block.specs.Signs.{signOf}
+use Rattle.block.specs.Characters.{character}
+use Rattle.block_framing.specs.Runs.{isClearData}
+use Rattle.block_framing.proofs.Turns.{Sixteen, sixteen-begin, sixteen-turn, sixteen-end, off-dle-data}
+use Rattle.block_framing.proofs.scan.least_off_dle.Statement.{statement}
+use Rattle.block_framing.proofs.scan.least_off_dle.Tie as tie
+
+abbrev Inv-loop : tie.InvT-loop
+Inv-loop seven line at least₀ i₀ least i = Sixteen (0 < least) (λ k. isClearData (signOf (character seven (getD line k 0))) ≡ true) (length line) at i
+
+abbrev μ-loop : tie.MeasureT-loop
+μ-loop seven line at least₀ i₀ least i = 16 - i
+
+loop-holds : tie.Need-loop-holds Inv-loop μ-loop
+loop-holds c = sixteen-begin (c .before .pre)
+
+add-character : tie.Need-add-character Inv-loop μ-loop
+add-character c = search needs
+
+shared-slice-read-character : tie.Need-shared-slice-read-character Inv-loop μ-loop
+shared-slice-read-character c = search needs
+
+character-requires : tie.Need-character-requires Inv-loop μ-loop
+character-requires c κs = search needs
+
+lesser-requires : tie.Need-lesser-requires Inv-loop μ-loop
+lesser-requires c κs = search needs
+
+add-i : tie.Need-add-i Inv-loop μ-loop
+add-i c = omega arith
+
+loop-less : tie.Need-loop-less Inv-loop μ-loop
+loop-less c = omega arith
+
+loop-again : tie.Need-loop-again Inv-loop μ-loop
+loop-again c =
+    let l = c .before .before .before .before in
+    let r = c .lesser .ensures in
+    sixteen-turn (l .loop .inv) (l .before .before .pre) (c .before .before .before .loop-test .taken)
+    (λ h. (omega (arith, r .0), rw (← c .before .character .ensures) (off-dle-data _ (omega (arith, r .1)))))
+
+returns : tie.Need-returns Inv-loop μ-loop
+returns c h = sixteen-end (c .before .loop .inv) (omega arith) h
+
+pub least-off-dle-spec : {M : Type 1} → statement M
+least-off-dle-spec =
+    tie.close
+    (tie.spec
+    Inv-loop
+    μ-loop
+    loop-holds
+    add-character
+    shared-slice-read-character
+    character-requires
+    lesser-requires
+    add-i
+    loop-less
+    loop-again
+    returns)
