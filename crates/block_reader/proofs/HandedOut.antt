@@ -12,6 +12,7 @@ use Rattle.block.proofs.Lists.{sets-append, map-append}
 use Rattle.block_framing.specs.declared.Framing.{Framing}
 use Rattle.block_framing.specs.Framings.{keptBytes, headerIn, textIn, Ordered}
 use Rattle.block_framing.proofs.Reading.{part-slice}
+use Rattle.block_reader.specs.Counts.{CountsKept}
 
 module _ (seven : Bool) (f : Framing) (line : List ℕ) (o : Ordered f (length line)) where
   header-part : keptBytes false seven false (take (f .inner - f .head) (drop (f .head) line)) ≡ headerIn seven f line
@@ -22,15 +23,25 @@ module _ (seven : Bool) (f : Framing) (line : List ℕ) (o : Ordered f (length l
   unfolding textIn
   text-part c = ap₂ (λ x l. keptBytes x seven false l) c (part-slice (f .body) (f .tail) line (o .text))
 
-  module _ (out : List ℕ) (room : length (headerIn seven f line) + length (textIn seven f line) ≤ length out) where
-    pub header-room : 0 + length (keptBytes false seven false (take (f .inner - f .head) (drop (f .head) line))) ≤ length out
-    header-room = omega (arith, ap length header-part, room)
+  module _ (counts : CountsKept seven f line) where
+    pub header-kept : f .header ≡ length (keptBytes false seven false (take (f .inner - f .head) (drop (f .head) line)))
+    header-kept = counts .header ∙ ap length (sym header-part)
+
+    pub text-kept : {clear : Bool} → clear ≡ isClear (f .shape) → f .text ≡ length (keptBytes clear seven false (take (f .tail - f .body) (drop (f .body) line)))
+    text-kept c = counts .text ∙ ap length (sym (text-part c))
+
+  module _ (counts : CountsKept seven f line) (out : List ℕ) (room : f .header + f .text ≤ length out) where
+    pub header-room : (f .header ≡ length (keptBytes false seven false (take (f .inner - f .head) (drop (f .head) line)))) × (0 + f .header ≤ length out)
+    header-room = (header-kept counts, omega (arith, room))
 
     module _ {n : ℕ} {out₁ : List ℕ} (h : n ≡ 0 + length (keptBytes false seven false (take (f .inner - f .head) (drop (f .head) line))))
         (s : out₁ ≡ sets out 0 (map (character seven) (keptBytes false seven false (take (f .inner - f .head) (drop (f .head) line)))))
         {clear : Bool} (c : clear ≡ isClear (f .shape)) where
-      pub text-room : n + length (keptBytes clear seven false (take (f .tail - f .body) (drop (f .body) line))) ≤ length out₁
-      text-room = omega (arith, h, ap length s, length-sets out 0 (map (character seven) (keptBytes false seven false (take (f .inner - f .head) (drop (f .head) line)))), ap length header-part, ap length (text-part c), room)
+      pub text-room : (f .text ≡ length (keptBytes clear seven false (take (f .tail - f .body) (drop (f .body) line)))) × (n + f .text ≤ length out₁)
+      text-room = (
+        text-kept counts c,
+        omega (arith, h, counts .header, ap length s, length-sets out 0 (map (character seven) (keptBytes false seven false (take (f .inner - f .head) (drop (f .head) line)))), ap length header-part, room),
+      )
 
       pub both-handed : {out₂ : List ℕ} → out₂ ≡ sets out₁ n (map (character seven) (keptBytes clear seven false (take (f .tail - f .body) (drop (f .body) line))))
           → out₂ ≡ sets out 0 (map (character seven) (headerIn seven f line ++ textIn seven f line))

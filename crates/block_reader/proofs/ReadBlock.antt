@@ -33,6 +33,7 @@ use Rattle.block_framing.specs.declared.WalkEnd.the-variants as code
 use Rattle.block_framing.specs.Framings.{noTally, tallied, framingAt, framed, refusal, ofWalk, framedAnswer, headerIn, textIn, countedIn, Ordered, Segmented}
 use Rattle.block_framing.proofs.FramingLaws.{segmented, Tallied, tally-counts, framing-shape}
 use Rattle.block_framing.proofs.Reading.{Carries, framing-carries}
+use Rattle.block_reader.specs.Counts.{CountsKept}
 
 length-sift : (is : Mark → Bool) (ks : List Mark) (line : List ℕ) → length (sift is ks line) ≤ length line
 length-sift is [] line = omega arith
@@ -104,8 +105,8 @@ module _ (m : Method) (p : Parity) (line : List ℕ) (r : Framing) (x : Found m 
   pub needed : r .header + r .text ≡ outputLength (partsOf m line ks (x .field) (x .end))
   needed = ap₂ (λ i j. i + j) header-length text-length
 
-  pub kept-length : r .header + r .text ≡ length (headerIn (isSeven m) r line) + length (textIn (isSeven m) r line)
-  kept-length = ap₂ (λ i j. i + j) (carried .headers ∙ tally .headers ∙ ap length (finds .headers)) (carried .texts ∙ tally .texts ∙ ap length (finds .texts))
+  pub counts-kept : CountsKept (isSeven m) r line
+  counts-kept = record { header = carried .headers ∙ tally .headers ∙ ap length (finds .headers); text = carried .texts ∙ tally .texts ∙ ap length (finds .texts) }
 
   -- ---- 18 and 19
 

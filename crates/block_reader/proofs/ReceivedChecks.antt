@@ -15,7 +15,6 @@ use Rattle.bits.specs.Bytes.{lowBits, bitsOf, Bytes, littleEndian, pack}
 use Rattle.bits.proofs.Strings.{same-sound, same-self}
 use Rattle.bits.proofs.Bytes.{bitsOf-one, bitsOf-injective}
 use Rattle.bits.proofs.Packing.{bitsOf-littleEndian, pack-lowBits}
-use Rattle.registers.specs.Register.{enterByTable, enterAllByTable}
 use Rattle.block.specs.declared.Method.the-variants as method
 use Rattle.block.specs.declared.Parity.{Parity}
 use Rattle.block.specs.Characters.{withParity}
@@ -48,10 +47,6 @@ module _ (fold : ℕ → List ℕ → ℕ) (fold-append : (a : ℕ) (xs ys : Lis
       t ∙ ap₂ (λ x l. fold signs (keptBytes x seven false l)) c (part-slice (f .body) (f .tail) line (o .text)) in
       e ∙ ap (λ a. fold a last) (t′ ∙ ap (λ a. fold a ts) (s′ ∙ ap (λ a. fold a is) h′))
       ∙ sym (fold-append start hs (is ++ (ts ++ last)) ∙ fold-append (fold start hs) is (ts ++ last) ∙ fold-append (fold (fold start hs) is) ts last)
-
-pub enter-last : (table : List ℕ) (register b : ℕ) → enterByTable table register b ≡ enterAllByTable table register (b ∷ [])
-unfolding enterAllByTable
-enter-last table register b = refl
 
 pub xor-last : (sum b : ℕ) → bitXor sum b ≡ xorAll sum (b ∷ [])
 unfolding xorAll

@@ -9,8 +9,9 @@ use block::with_parity;
 use block_framing::Framing;
 use cyclic::Cyclic3;
 use cyclic::Cyclic4;
-use registers::enter_byte16;
-use registers::enter_slice16;
+use folding::Generator16;
+use folding::enter_one;
+use folding::enter_run;
 use registers::sent16;
 ghost use mathlib.Core.Path.{_≡_};
 ghost use mathlib.Core.Bool.{true, false};
@@ -19,15 +20,17 @@ ghost use lib.ListN.{length, drop};
 ghost use Rattle.bits.specs.Strings.{same};
 ghost use Rattle.bits.specs.Bytes.{lowBits, bitsOf};
 ghost use Rattle.cyclic.specs.Check.{checkBits, method3, method4};
-ghost use Rattle.registers.specs.Register.{enterAllByTable};
+ghost use Rattle.folding.specs.Fold.{registerAfter};
 ghost use Rattle.block.specs.Characters.{isSeven};
 ghost use Rattle.block.specs.Check.{checkOf, checkLength, xorAll};
 ghost use Rattle.block_framing.specs.Framings.{countedIn, Ordered};
+ghost use Rattle.block_reader.specs.Counts.{CountsKept};
 
 // The counted bytes of a line, entered into a register.
-fn enter_counted(table: &[u16; 256], start: u16, f: Framing, line: &[u8]) -> u16
+fn enter_counted(g: Generator16, start: u16, f: Framing, line: &[u8]) -> u16
     requires { ⌜ Ordered f (length (now line)) ⌝ }
-    ensures { λ r. ⌜ r ≡ enterAllByTable (now (table .entry)) start (countedIn false f (now (line .entry))) ⌝ }
+    requires { ⌜ CountsKept false f (now line) ⌝ }
+    ensures { λ r. ⌜ r ≡ registerAfter g start (countedIn false f (now (line .entry))) ⌝ }
 {
     let head = f.head;
     let inner = f.inner;
@@ -35,15 +38,16 @@ fn enter_counted(table: &[u16; 256], start: u16, f: Framing, line: &[u8]) -> u16
     let tail = f.tail;
     let last = f.after - 1;
     let shape = f.shape;
-    let header = enter_part(table, start, false, &line[head..inner]);
-    let signs = enter_slice16(table, header, &line[inner..body]);
-    let text = enter_part(table, signs, is_clear(shape), &line[body..tail]);
-    enter_byte16(table, text, line[last])
+    let header = enter_part(g, start, false, f.header, &line[head..inner]);
+    let signs = enter_run(g, header, &line[inner..body]);
+    let text = enter_part(g, signs, is_clear(shape), f.text, &line[body..tail]);
+    enter_one(g, text, line[last])
 }
 
 // The same of methods 1 and 2, summed bit by bit.
 fn sum_counted(f: Framing, line: &[u8]) -> u8
     requires { ⌜ Ordered f (length (now line)) ⌝ }
+    requires { ⌜ CountsKept true f (now line) ⌝ }
     ensures { λ r. ⌜ r ≡ xorAll 0 (countedIn true f (now (line .entry))) ⌝ }
 {
     let head = f.head;
@@ -52,27 +56,27 @@ fn sum_counted(f: Framing, line: &[u8]) -> u8
     let tail = f.tail;
     let last = f.after - 1;
     let shape = f.shape;
-    let header = sum_part(0, false, &line[head..inner]);
+    let header = sum_part(0, false, f.header, &line[head..inner]);
     let signs = sum_slice(header, &line[inner..body]);
-    let text = sum_part(signs, is_clear(shape), &line[body..tail]);
+    let text = sum_part(signs, is_clear(shape), f.text, &line[body..tail]);
     text ^ line[last]
 }
 
 fn check_3(f: Framing, line: &[u8]) -> u16
     requires { ⌜ Ordered f (length (now line)) ⌝ }
+    requires { ⌜ CountsKept false f (now line) ⌝ }
     ensures { λ r. ⌜ lowBits 16 r ≡ checkBits method3 (bitsOf (countedIn false f (now (line .entry)))) ⌝ }
 {
-    let table = Cyclic3::table();
-    let register = enter_counted(&table, Cyclic3::START, f, line);
+    let register = enter_counted(Generator16::Ccitt, Cyclic3::START, f, line);
     Cyclic3 { register }.check()
 }
 
 fn check_4(f: Framing, line: &[u8]) -> u16
     requires { ⌜ Ordered f (length (now line)) ⌝ }
+    requires { ⌜ CountsKept false f (now line) ⌝ }
     ensures { λ r. ⌜ lowBits 16 r ≡ checkBits method4 (bitsOf (countedIn false f (now (line .entry)))) ⌝ }
 {
-    let table = Cyclic4::table();
-    let register = enter_counted(&table, Cyclic4::START, f, line);
+    let register = enter_counted(Generator16::Ibm, Cyclic4::START, f, line);
     Cyclic4 { register }.check()
 }
 
@@ -93,6 +97,7 @@ fn is_sent(check: u16, line: &[u8], at: usize) -> bool
 pub fn check_right(m: Method, p: Parity, f: Framing, line: &[u8]) -> bool
     requires { ⌜ Ordered f (length (now line)) ⌝ }
     requires { ⌜ length (now line) ≡ f .after + checkLength m ⌝ }
+    requires { ⌜ CountsKept (isSeven m) f (now line) ⌝ }
     ensures { λ r. ⌜ r ≡ same (bitsOf (drop (f .after) (now (line .entry)))) (checkOf m p (countedIn (isSeven m) f (now (line .entry)))) ⌝ }
 {
     let after = f.after;

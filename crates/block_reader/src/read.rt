@@ -20,6 +20,7 @@ ghost use Rattle.block.specs.Characters.{character};
 ghost use Rattle.block.specs.Read.{readBlock, readOutput};
 ghost use Rattle.block.specs.Answers.{ofRead, ofReadAnswer};
 ghost use Rattle.block_framing.specs.Framings.{ofWalk, ofUnframed, headerIn, textIn, Ordered};
+ghost use Rattle.block_reader.specs.Counts.{CountsKept};
 
 // The refusal of a walk that found no framing.
 fn unframed(w: WalkEnd) -> BlockRead
@@ -34,7 +35,8 @@ fn unframed(w: WalkEnd) -> BlockRead
 // Header, then text, at the start of the output.
 fn hand_out(seven: bool, f: Framing, line: &[u8], out: &mut [u8])
     requires { ⌜ Ordered f (length (now line)) ⌝ }
-    requires { ⌜ length (headerIn seven f (now line)) + length (textIn seven f (now line)) ≤ length (now out) ⌝ }
+    requires { ⌜ CountsKept seven f (now line) ⌝ }
+    requires { ⌜ f .header + f .text ≤ length (now out) ⌝ }
     ensures { λ _. ⌜ now (out .exit) ≡ sets (now (out .entry)) 0 (map (character seven) (headerIn seven f (now (line .entry)) ++ textIn seven f (now (line .entry)))) ⌝ }
 {
     let head = f.head;
@@ -42,8 +44,15 @@ fn hand_out(seven: bool, f: Framing, line: &[u8], out: &mut [u8])
     let body = f.body;
     let tail = f.tail;
     let shape = f.shape;
-    let n = copy_part(seven, false, &line[head..inner], &mut *out, 0);
-    copy_part(seven, is_clear(shape), &line[body..tail], &mut *out, n);
+    let n = copy_part(seven, false, f.header, &line[head..inner], &mut *out, 0);
+    copy_part(
+        seven,
+        is_clear(shape),
+        f.text,
+        &line[body..tail],
+        &mut *out,
+        n,
+    );
 }
 
 // Document 01, part 3: reads one block.

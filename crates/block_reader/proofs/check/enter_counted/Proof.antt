@@ -1,9 +1,9 @@
 -- `enter_counted` meets its contract: header, inner start, text and end sign enter one after the other. Assumes nothing.
 use mathlib.Core.Bool.{false}
-use mathlib.Core.Path.{_∙_}
-use Rattle.registers.specs.Register.{enterAllByTable}
-use Rattle.block.proofs.CheckLaws.{enterAll-append}
-use Rattle.block_reader.proofs.ReceivedChecks.{folded, enter-last}
+use Rattle.folding.specs.Fold.{registerAfter}
+use Rattle.folding.proofs.Registers.{after-append}
+use Rattle.block_reader.proofs.HandedOut.{header-kept, text-kept}
+use Rattle.block_reader.proofs.ReceivedChecks.{folded}
 use borrow.Author.Needs.{needs}
 use Rattle.block_reader.proofs.check.enter_counted.Statement.{statement}
 use Rattle.block_reader.proofs.check.enter_counted.Tie as tie
@@ -21,19 +21,21 @@ part-enter-part-end : tie.Need-part-enter-part-end
 part-enter-part-end c = search needs
 
 enter-part-requires : tie.Need-enter-part-requires
-enter-part-requires c κs = search needs
+enter-part-requires c κs =
+    let s = c .before .before .before in
+    header-kept false (s .args .f) (s .args .line .now) (s .pre .0) (s .pre .1)
 
-sub-enter-slice16 : tie.Need-sub-enter-slice16
-sub-enter-slice16 c = search needs
+sub-enter-run : tie.Need-sub-enter-run
+sub-enter-run c = search needs
 
-part-enter-slice16-start : tie.Need-part-enter-slice16-start
-part-enter-slice16-start c = search needs
+part-enter-run-start : tie.Need-part-enter-run-start
+part-enter-run-start c = search needs
 
-part-enter-slice16-end : tie.Need-part-enter-slice16-end
-part-enter-slice16-end c = search needs
+part-enter-run-end : tie.Need-part-enter-run-end
+part-enter-run-end c = search needs
 
-enter-slice16-requires : tie.Need-enter-slice16-requires
-enter-slice16-requires c κs = search needs
+enter-run-requires : tie.Need-enter-run-requires
+enter-run-requires c κs = search needs
 
 is-clear-requires : tie.Need-is-clear-requires
 is-clear-requires c κs = search needs
@@ -48,20 +50,21 @@ part-enter-part-end-2 : tie.Need-part-enter-part-end-2
 part-enter-part-end-2 c = search needs
 
 enter-part-requires-2 : tie.Need-enter-part-requires-2
-enter-part-requires-2 c κs = search needs
+enter-part-requires-2 c κs =
+    let s = c .before .before .before .before .before .before .before .before in
+    text-kept false (s .args .f) (s .args .line .now) (s .pre .0) (s .pre .1) (c .before .is-clear .ensures)
 
-shared-slice-read-enter-byte16 : tie.Need-shared-slice-read-enter-byte16
-shared-slice-read-enter-byte16 c = search needs
+shared-slice-read-enter-one : tie.Need-shared-slice-read-enter-one
+shared-slice-read-enter-one c = search needs
 
-enter-byte16-requires : tie.Need-enter-byte16-requires
-enter-byte16-requires c κs = search needs
+enter-one-requires : tie.Need-enter-one-requires
+enter-one-requires c κs = search needs
 
 returns : tie.Need-returns
 returns c =
     let a = c .before .before .before .before .before .before .before .before .before .before .before .args in
-    let table = a .table .now in
-    folded (enterAllByTable table) (enterAll-append table) false (a .f) (a .line .now) (c .before .before .before .before .before .before .before .before .before .before .before .pre) (a .start) (c .before .before .before .before .before .before .before .enter-part .ensures)
-    (c .before .before .before .before .before .enter-slice16 .ensures) (c .before .before .before .before .is-clear .ensures) (c .before .before .enter-part2 .ensures) (c .enter-byte16 .ensures ∙ enter-last table _ _)
+    folded (registerAfter (a .g)) (after-append (a .g)) false (a .f) (a .line .now) (c .before .before .before .before .before .before .before .before .before .before .before .pre .0) (a .start) (c .before .before .before .before .before .before .before .enter-part .ensures)
+    (c .before .before .before .before .before .enter-run .ensures) (c .before .before .before .before .is-clear .ensures) (c .before .before .enter-part2 .ensures) (c .enter-one .ensures)
 
 pub enter-counted-spec : {M : Type 1} → statement M
 enter-counted-spec =
@@ -72,15 +75,15 @@ enter-counted-spec =
     part-enter-part-start
     part-enter-part-end
     enter-part-requires
-    sub-enter-slice16
-    part-enter-slice16-start
-    part-enter-slice16-end
-    enter-slice16-requires
+    sub-enter-run
+    part-enter-run-start
+    part-enter-run-end
+    enter-run-requires
     is-clear-requires
     sub-enter-part-2
     part-enter-part-start-2
     part-enter-part-end-2
     enter-part-requires-2
-    shared-slice-read-enter-byte16
-    enter-byte16-requires
+    shared-slice-read-enter-one
+    enter-one-requires
     returns)

@@ -2,6 +2,7 @@
 use mathlib.Core.Bool.{true}
 use Rattle.block.specs.Check.{xorAll}
 use Rattle.block.proofs.Sums.{xorAll-append}
+use Rattle.block_reader.proofs.HandedOut.{header-kept, text-kept}
 use Rattle.block_reader.proofs.ReceivedChecks.{folded, xor-last}
 use borrow.Author.Needs.{needs}
 use Rattle.block_reader.proofs.check.sum_counted.Statement.{statement}
@@ -20,7 +21,9 @@ part-sum-part-end : tie.Need-part-sum-part-end
 part-sum-part-end c = search needs
 
 sum-part-requires : tie.Need-sum-part-requires
-sum-part-requires c κs = search needs
+sum-part-requires c κs =
+    let s = c .before .before .before in
+    header-kept true (s .args .f) (s .args .line .now) (s .pre .0) (s .pre .1)
 
 sub-sum-slice : tie.Need-sub-sum-slice
 sub-sum-slice c = search needs
@@ -47,7 +50,9 @@ part-sum-part-end-2 : tie.Need-part-sum-part-end-2
 part-sum-part-end-2 c = search needs
 
 sum-part-requires-2 : tie.Need-sum-part-requires-2
-sum-part-requires-2 c κs = search needs
+sum-part-requires-2 c κs =
+    let s = c .before .before .before .before .before .before .before .before in
+    text-kept true (s .args .f) (s .args .line .now) (s .pre .0) (s .pre .1) (c .before .is-clear .ensures)
 
 shared-slice-read-result : tie.Need-shared-slice-read-result
 shared-slice-read-result c = search needs
@@ -55,7 +60,7 @@ shared-slice-read-result c = search needs
 returns : tie.Need-returns
 returns c =
     let a = c .before .before .before .before .before .before .before .before .before .before .args in
-    folded xorAll xorAll-append true (a .f) (a .line .now) (c .before .before .before .before .before .before .before .before .before .before .pre) 0 (c .before .before .before .before .before .before .sum-part .ensures) (c .before .before .before .before .sum-slice .ensures)
+    folded xorAll xorAll-append true (a .f) (a .line .now) (c .before .before .before .before .before .before .before .before .before .before .pre .0) 0 (c .before .before .before .before .before .before .sum-part .ensures) (c .before .before .before .before .sum-slice .ensures)
     (c .before .before .before .is-clear .ensures) (c .before .sum-part2 .ensures) (xor-last _ _)
 
 pub sum-counted-spec : {M : Type 1} → statement M

@@ -16,7 +16,7 @@ part-copy-part-end c = search needs
 copy-part-requires : tie.Need-copy-part-requires
 copy-part-requires c κs =
     let a = c .before .before .before .before .args in
-    header-room (a .seven) (a .f) (a .line .now) (c .before .before .before .before .pre .0) (a .out .now) (c .before .before .before .before .pre .1)
+    header-room (a .seven) (a .f) (a .line .now) (c .before .before .before .before .pre .0) (c .before .before .before .before .pre .1 .0) (a .out .now) (c .before .before .before .before .pre .1 .1)
 
 is-clear-requires : tie.Need-is-clear-requires
 is-clear-requires c κs = search needs
@@ -34,7 +34,7 @@ copy-part-requires-2 : tie.Need-copy-part-requires-2
 copy-part-requires-2 c κs =
     let a = c .before .before .before .before .before .before .before .before .before .before .args in
     let copied = c .before .before .before .before .before .copy-part in
-    text-room (a .seven) (a .f) (a .line .now) (c .before .before .before .before .before .before .before .before .before .before .pre .0) (a .out .now) (c .before .before .before .before .before .before .before .before .before .before .pre .1) (copied .ensures .0) (copied .ensures .1)
+    text-room (a .seven) (a .f) (a .line .now) (c .before .before .before .before .before .before .before .before .before .before .pre .0) (c .before .before .before .before .before .before .before .before .before .before .pre .1 .0) (a .out .now) (c .before .before .before .before .before .before .before .before .before .before .pre .1 .1) (copied .ensures .0) (copied .ensures .1)
     (c .before .before .is-clear .ensures)
 
 same-length : tie.Need-same-length
@@ -44,7 +44,7 @@ returns : tie.Need-returns
 returns c =
     let a = c .before .before .before .before .before .before .before .before .before .before .before .before .before .args in
     let copied = c .before .before .before .before .before .before .before .before .copy-part in
-    both-handed (a .seven) (a .f) (a .line .now) (c .before .before .before .before .before .before .before .before .before .before .before .before .before .pre .0) (a .out .now) (c .before .before .before .before .before .before .before .before .before .before .before .before .before .pre .1) (copied .ensures .0) (copied .ensures .1)
+    both-handed (a .seven) (a .f) (a .line .now) (c .before .before .before .before .before .before .before .before .before .before .before .before .before .pre .0) (c .before .before .before .before .before .before .before .before .before .before .before .before .before .pre .1 .0) (a .out .now) (c .before .before .before .before .before .before .before .before .before .before .before .before .before .pre .1 .1) (copied .ensures .0) (copied .ensures .1)
     (c .before .before .before .before .before .is-clear .ensures) (c .before .before .copy-part2 .ensures .1)
 
 pub hand-out-spec : {M : Type 1} → statement M

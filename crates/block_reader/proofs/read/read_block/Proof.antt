@@ -6,7 +6,7 @@ use borrow.Author.Tests.{not-true, not-false}
 use Rattle.block.specs.Read.{readOutput}
 use Rattle.block.specs.Answers.{ofReadAnswer}
 use Rattle.block_framing.specs.Framings.{ofWalk, ofUnframed}
-use Rattle.block_reader.proofs.ReadBlock.{found-framing, ordered, closed, lengths-small, kept-length, wrong-check, output-short, is-taken, taken-numbers, taken-output, no-framing, kept-output}
+use Rattle.block_reader.proofs.ReadBlock.{found-framing, ordered, closed, lengths-small, counts-kept, wrong-check, output-short, is-taken, taken-numbers, taken-output, no-framing, kept-output}
 use borrow.Author.Needs.{needs}
 use Rattle.block_reader.proofs.read.read_block.Statement.{statement}
 use Rattle.block_reader.proofs.read.read_block.Tie as tie
@@ -33,7 +33,7 @@ check-right-requires : tie.Need-check-right-requires
 check-right-requires c κs =
     let a = c .before .before .before .before .before .before .args in
     let x = found-framing (a .method) (a .parity) (a .line .now) _ (sym (c .before .before .before .find-framing .ensures) ∙ ap ofWalk (c .before .walked .given .1)) in
-    (ordered (a .method) (a .parity) (a .line .now) _ x, closed (a .method) (a .parity) (a .line .now) _ x)
+    (ordered (a .method) (a .parity) (a .line .now) _ x, (closed (a .method) (a .parity) (a .line .now) _ x, counts-kept (a .method) (a .parity) (a .line .now) _ x))
 
 returns-2 : tie.Need-returns-2
 returns-2 c =
@@ -63,7 +63,7 @@ hand-out-requires : tie.Need-hand-out-requires
 hand-out-requires c κs =
     let a = c .before .before .before .before .before .before .before .before .before .before .before .before .args in
     let x = found-framing (a .method) (a .parity) (a .line .now) _ (sym (c .before .before .before .before .before .before .before .before .before .find-framing .ensures) ∙ ap ofWalk (c .before .before .before .before .before .before .before .walked .given .1)) in
-    (ordered (a .method) (a .parity) (a .line .now) _ x, rw (c .before .is-seven .ensures) (omega (arith, kept-length (a .method) (a .parity) (a .line .now) _ x, c .before .before .if2 .left)))
+    (ordered (a .method) (a .parity) (a .line .now) _ x, (rw (c .before .is-seven .ensures) (counts-kept (a .method) (a .parity) (a .line .now) _ x), omega (arith, c .before .before .if2 .left)))
 
 same-length : tie.Need-same-length
 same-length c = search needs

@@ -1,76 +1,40 @@
--- `copy_part` meets its contract. The loop's invariant: what is left to store, laid over the output, gives the whole. The measure is what is left. Assumes nothing.
-use Prim.Native.Nat.{_-_, _+_, _≤_}
+-- `copy_part` meets its contract: a segment as long as what it keeps is kept whole. Assumes nothing.
+use mathlib.Core.Path.{sym, ap, _∙_}
+use Prim.Native.Nat.{_+_}
 use mathlib.Core.Bool.{false}
-use native.Mathlib.Omega.{arith}
+use mathlib.Core.List.{map}
 use lib.ListN.{length}
-use Rattle.block_framing.specs.Framings.{keptBytes}
-use Rattle.block_reader.proofs.Kept.{Copying, copying, room, copied, stored}
+use lib.Seq.{sets}
+use Rattle.block.specs.Characters.{character}
+use Rattle.block_reader.proofs.Kept.{kept-all}
 use borrow.Author.Needs.{needs}
 use Rattle.block_reader.proofs.segments.copy_part.Statement.{statement}
 use Rattle.block_reader.proofs.segments.copy_part.Tie as tie
 
-abbrev Inv-loop : tie.InvT-loop
-Inv-loop seven clear part out₀ at n₀ behind₀ i₀ out n behind i = Copying clear seven part out₀ at out n behind i × (at + length (keptBytes clear seven false part) ≤ length out₀)
+copy-whole-requires : tie.Need-copy-whole-requires
+copy-whole-requires c κs = search needs
 
-abbrev μ-loop : tie.MeasureT-loop
-μ-loop seven clear part out₀ at n₀ behind₀ i₀ out n behind i = length part - i
+same-length : tie.Need-same-length
+same-length c = search needs
 
-loop-holds : tie.Need-loop-holds Inv-loop μ-loop
-loop-holds c =
-    let a = c .before .before .args in
-    (copying (a .clear) (a .seven) (a .part .now) (a .out .now) (a .at), c .before .before .pre)
+returns : tie.Need-returns
+returns c =
+    let s = c .before .before .before .before .before .before .before in
+    let a = s .args in
+    let k = kept-all (a .clear) (a .seven) false (a .part .now) (sym (s .pre .0) ∙ c .before .before .before .before .if1 .taken) in
+    let whole = c .before .before .copy-whole .ensures in
+    (whole .0 ∙ ap (λ l. a .at + length l) (sym k), whole .1 ∙ ap (λ l. sets (a .out .now) (a .at) (map (character (a .seven)) l)) (sym k))
 
-shared-slice-read-b : tie.Need-shared-slice-read-b Inv-loop μ-loop
-shared-slice-read-b c = search needs
+copy-kept-requires : tie.Need-copy-kept-requires
+copy-kept-requires c κs = search needs
 
-is-kept-requires : tie.Need-is-kept-requires Inv-loop μ-loop
-is-kept-requires c κs = search needs
+same-length-2 : tie.Need-same-length-2
+same-length-2 c = search needs
 
-character-requires : tie.Need-character-requires Inv-loop μ-loop
-character-requires c κs = search needs
-
-put-if-requires : tie.Need-put-if-requires Inv-loop μ-loop
-put-if-requires c κs =
-    let l = c .before .before .before .before .before in
-    room (l .loop .inv .0) (c .before .before .before .before .loop-test .taken) (c .before .is-kept .ensures) (c .character .ensures) (l .loop .inv .1)
-
-next-behind-requires : tie.Need-next-behind-requires Inv-loop μ-loop
-next-behind-requires c κs = search needs
-
-add-i : tie.Need-add-i Inv-loop μ-loop
-add-i c = omega arith
-
-loop-less : tie.Need-loop-less Inv-loop μ-loop
-loop-less c = omega arith
-
-loop-again : tie.Need-loop-again Inv-loop μ-loop
-loop-again c =
-    let l = c .before .before .before .before .before .before .before .before .before in (
-      copied (l .loop .inv .0) (c .before .before .before .before .before .before .before .before .loop-test .taken) (c .before .before .before .before .before .is-kept .ensures) (c .before .before .before .before .character .ensures) (c .before .before .before .put-if .ensures .0)
-          (c .before .before .before .put-if .ensures .1) (c .before .before .before .put-if .kept .0) (c .next-behind .ensures),
-      l .loop .inv .1,
-    )
-
-same-length : tie.Need-same-length Inv-loop μ-loop
-same-length c = c .before .loop .inv .0 .size
-
-returns : tie.Need-returns Inv-loop μ-loop
-returns c = stored (c .before .loop .inv .0) (c .loop-test .left)
+returns-2 : tie.Need-returns-2
+returns-2 c = search needs
 
 pub copy-part-spec : {M : Type 1} → statement M
 copy-part-spec =
     tie.close
-    (tie.spec
-    Inv-loop
-    μ-loop
-    loop-holds
-    shared-slice-read-b
-    is-kept-requires
-    character-requires
-    put-if-requires
-    next-behind-requires
-    add-i
-    loop-less
-    loop-again
-    same-length
-    returns)
+    (tie.spec copy-whole-requires same-length returns copy-kept-requires same-length-2 returns-2)

@@ -4,16 +4,15 @@ use borrow.Author.Needs.{needs}
 use Rattle.block_reader.proofs.segments.enter_if.Statement.{statement}
 use Rattle.block_reader.proofs.segments.enter_if.Tie as tie
 
-enter-byte16-requires : tie.Need-enter-byte16-requires
-enter-byte16-requires c κs = search needs
+enter-one-requires : tie.Need-enter-one-requires
+enter-one-requires c κs = search needs
 
 returns : tie.Need-returns
-unfolding enterAllByTable
-returns c = rw (c .before .if1 .taken) (c .enter-byte16 .ensures)
+returns c = rw (c .before .if1 .taken) (c .enter-one .ensures)
 
 returns-2 : tie.Need-returns-2
 unfolding enterAllByTable
 returns-2 c = rw (c .if1 .left)
 
 pub enter-if-spec : {M : Type 1} → statement M
-enter-if-spec = tie.close (tie.spec enter-byte16-requires returns returns-2)
+enter-if-spec = tie.close (tie.spec enter-one-requires returns returns-2)

@@ -1,0 +1,67 @@
+-- `copy_whole` meets its contract. The loop's invariant: what is left to store, laid over the output, gives the whole. The measure is what is left. Assumes nothing.
+use Prim.Native.Nat.{_-_}
+use native.Mathlib.Omega.{arith}
+use lib.ListN.{length}
+use Rattle.block_reader.proofs.Kept.{CopyingAll, copying-all, all-copied, all-stored}
+use borrow.Author.Needs.{needs}
+use Rattle.block_reader.proofs.segments.copy_whole.Statement.{statement}
+use Rattle.block_reader.proofs.segments.copy_whole.Tie as tie
+
+abbrev Inv-loop : tie.InvT-loop
+Inv-loop seven part out₀ at i₀ out i = CopyingAll seven part out₀ at out i
+
+abbrev μ-loop : tie.MeasureT-loop
+μ-loop seven part out₀ at i₀ out i = length part - i
+
+loop-holds : tie.Need-loop-holds Inv-loop μ-loop
+loop-holds c =
+    let a = c .before .before .args in
+    copying-all (a .seven) (a .part .now) (a .out .now) (a .at)
+
+shared-slice-read-character : tie.Need-shared-slice-read-character Inv-loop μ-loop
+shared-slice-read-character c = search needs
+
+character-requires : tie.Need-character-requires Inv-loop μ-loop
+character-requires c κs = search needs
+
+add-out : tie.Need-add-out Inv-loop μ-loop
+add-out c = omega arith
+
+slice-write-out : tie.Need-slice-write-out Inv-loop μ-loop
+slice-write-out c = omega (arith, c .before .before .before .loop .inv .size, c .before .before .before .before .before .before .pre)
+
+add-i : tie.Need-add-i Inv-loop μ-loop
+add-i c = omega arith
+
+loop-less : tie.Need-loop-less Inv-loop μ-loop
+loop-less c = omega arith
+
+loop-again : tie.Need-loop-again Inv-loop μ-loop
+loop-again c = all-copied (c .before .before .before .loop .inv) (c .before .before .loop-test .taken) (c .character .ensures)
+
+add-result : tie.Need-add-result Inv-loop μ-loop
+add-result c = omega (arith, c .before .loop .inv .within, c .before .before .before .before .pre)
+
+same-length : tie.Need-same-length Inv-loop μ-loop
+same-length c = c .before .loop .inv .size
+
+returns : tie.Need-returns Inv-loop μ-loop
+returns c = all-stored (c .before .loop .inv) (c .loop-test .left)
+
+pub copy-whole-spec : {M : Type 1} → statement M
+copy-whole-spec =
+    tie.close
+    (tie.spec
+    Inv-loop
+    μ-loop
+    loop-holds
+    shared-slice-read-character
+    character-requires
+    add-out
+    slice-write-out
+    add-i
+    loop-less
+    loop-again
+    add-result
+    same-length
+    returns)
