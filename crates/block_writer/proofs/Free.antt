@@ -1,15 +1,20 @@
 -- Free bytes: the match on a byte, the loop that looks for the first that is not free, and questions 2 and 3. Assumes nothing.
 use mathlib.Core.Path.{_≡_, refl, sym, ap, _∙_}
 use Prim.Native.Nat.{ℕ, _+_, _≤_, _<_}
+use Prim.Native.Nat.{zero, suc}
+use native.Mathlib.Nat.{add-zero}
 use native.Mathlib.Numerals.{add-one}
+use borrow.Author.Count.{below-more}
+use Rattle.block.specs.Signs.{US, OffSigns}
 use native.Mathlib.Omega.{arith}
 use mathlib.Core.Bool.{Bool, true, false, cond, not, _||_}
 use mathlib.Core.List.{List, [], _∷_}
 use lib.ListN.{length, getD, drop, drop-of-length-le}
 use lib.Seq.{drop-cons}
-use borrow.Author.Tests.{lt-ltb, le-ltb}
+use borrow.Author.Tests.{lt-ltb, le-ltb, ltb-true, ltb-false}
+use lib.Dec.{ltb}
 use Rattle.block.specs.Write.{isFree, WriteAnswer, refusal, askFree}
-use Rattle.block.proofs.NoSign.{NoSign, no-sign}
+use Rattle.block.proofs.NoSign.{NoSign, no-sign, off-none, above-none}
 use Rattle.block_writer.specs.Writing.{reservedFrom}
 
 -- ---- the match on a byte
@@ -50,6 +55,40 @@ module _ (seven : Bool) (part : List ℕ) (i : ℕ) where
   pub reserved-none : length part ≤ i → reservedFrom seven i (drop i part) ≡ reservedFrom seven 0 part → i ≡ reservedFrom seven 0 part
   unfolding reservedFrom
   reserved-none h rest = sym (ap (reservedFrom seven i) (drop-of-length-le part h)) ∙ rest
+
+-- ---- sixteen bytes at once
+
+none-free : (seven : Bool) (b : ℕ) → NoSign b → (seven ≡ true → b < 0x80) → isFree seven b ≡ true
+none-free seven b none small = go seven (ltb b 0x80) refl refl
+  where
+    go : (t low : Bool) → seven ≡ t → ltb b 0x80 ≡ low → isFree seven b ≡ true
+    go t true e l = sym (free-low seven b none (ltb-true b 0x80 l))
+    go true false e l = absurd (omega (arith, small e, ltb-false b 0x80 l))
+    go false false e l = sym (free-high seven b none (ltb-false b 0x80 l)) ∙ ap not e
+
+pub off-free : (seven : Bool) (b : ℕ) → OffSigns b → (seven ≡ true → b < 0x80) → isFree seven b ≡ true
+off-free seven b h = none-free seven b (off-none b h)
+
+pub above-free : (seven : Bool) (b : ℕ) → US < b → (seven ≡ true → b < 0x80) → isFree seven b ≡ true
+above-free seven b h = none-free seven b (above-none b h)
+
+-- as many free bytes
+reserved-runs : (seven : Bool) (part : List ℕ) (n i : ℕ) → i + n ≤ length part → ((k : ℕ) → i ≤ k → k < i + n → isFree seven (getD part k 0) ≡ true)
+    → reservedFrom seven i (drop i part) ≡ reservedFrom seven 0 part → reservedFrom seven (i + n) (drop (i + n) part) ≡ reservedFrom seven 0 part
+reserved-runs seven part zero i h all rest = rw (add-zero i) rest
+reserved-runs seven part (suc n) i h all rest =
+    let e : i + 1 + n ≡ i + suc n = omega arith in
+    let next = reserved-on seven part i (omega arith) refl (all i (omega arith) (omega arith)) rest in
+    ap (λ m. reservedFrom seven m (drop m part)) (sym e)
+    ∙ reserved-runs seven part n (i + 1) (omega arith) (λ k l m. all k (omega arith) (omega arith)) next
+
+pub sixteen-on : (seven : Bool) (part : List ℕ) (i : ℕ) → i + 16 ≤ length part → ((k : ℕ) → i ≤ k → k < i + 16 → isFree seven (getD part k 0) ≡ true)
+    → reservedFrom seven i (drop i part) ≡ reservedFrom seven 0 part → reservedFrom seven (i + 16) (drop (i + 16) part) ≡ reservedFrom seven 0 part
+sixteen-on seven part i = reserved-runs seven part 16 i
+
+-- one place more
+pub one-more : (P : ℕ → Type 0) (at i : ℕ) → ((k : ℕ) → at ≤ k → k < at + i → P k) → P (at + i) → (k : ℕ) → at ≤ k → k < at + (i + 1) → P k
+one-more P at i all here k l m = below-more (λ j. at ≤ j → P j) (at + i) (λ j q z. all j z q) (λ z. here) k (omega arith) l
 
 -- ---- the question
 

@@ -1,17 +1,18 @@
--- Bytes stored one after the other: laws of `Stored`, and the loops that store a part. Assumes nothing.
+-- Bytes stored one after the other: laws of `Stored`, and the loops that make and store a part. Assumes nothing.
 use mathlib.Core.Path.{_≡_, refl, sym, ap, ap₂, _∙_}
-use Prim.Native.Nat.{ℕ, suc, _+_, _≤_, _<_}
+use Prim.Native.Nat.{ℕ, suc, _+_, _-_, _≤_, _<_}
 use native.Mathlib.Nat.{add-zero}
 use native.Mathlib.Numerals.{add-one}
 use native.Mathlib.Omega.{arith}
 use mathlib.Core.Bool.{Bool, true, false}
 use mathlib.Core.List.{List, [], _∷_, _++_, map}
 use lib.Dec.{eqb}
-use lib.ListN.{length, getD, drop, length-append, length-map, drop-of-length-le}
-use lib.Seq.{drop-cons, sets, sets-eq, length-sets}
+use lib.ListN.{length, getD, set, take, drop, length-append, length-map, take-append-drop, drop-of-length-le}
+use lib.Seq.{drop-cons, take-suc, take-suc-set, sets, sets-eq, length-sets}
+use Rattle.folding.proofs.WordLaws.{tail-of}
 use Rattle.block.specs.Signs.{DLE}
 use Rattle.block.specs.Write.{doubled, escaped}
-use Rattle.block.proofs.Lists.{sets-append}
+use Rattle.block.proofs.Lists.{sets-append, map-append}
 use Rattle.block_writer.specs.Writing.{Stored}
 
 -- ---- stores one after the other
@@ -80,12 +81,24 @@ whole {after = after} {next = next} s e =
 
 -- ---- what is left of a part: characters, and clear text
 
+pub drop-on : (part : List ℕ) (i : ℕ) → i < length part → drop i part ≡ (getD part i 0 ∷ []) ++ drop (i + 1) part
+drop-on part i h = rw (drop-cons part i 0 h, add-one)
+
 module _ (f : ℕ → ℕ) (part : List ℕ) (i : ℕ) where
   pub map-on : i < length part → map f (drop i part) ≡ (f (getD part i 0) ∷ []) ++ map f (drop (i + 1) part)
-  map-on h = rw (drop-cons part i 0 h, add-one)
+  map-on h = ap (map f) (drop-on part i h)
 
   pub map-out : length part ≤ i → map f (drop i part) ≡ []
   map-out h = ap (map f) (drop-of-length-le part h)
+
+  -- the first characters, made one after the other
+  pub made-on : (bytes : List ℕ) → i < length part → i < length bytes → take i bytes ≡ map f (take i part)
+      → take (i + 1) (set bytes i (f (getD part i 0))) ≡ map f (take (i + 1) part)
+  made-on bytes h l e =
+      rw (add-one, take-suc-set bytes i (f (getD part i 0)) l, take-suc part i 0 h, map-append f (take i part) (getD part i 0 ∷ []), e)
+
+  pub map-parts : map f (take i part) ++ map f (take (length part - i) (drop i part)) ≡ map f part
+  map-parts = rw (tail-of part i) (sym (map-append f (take i part) (drop i part)) ∙ ap (map f) (take-append-drop i part))
 
 doubled-append : (t : Bool) (b : ℕ) (bs : List ℕ) → doubled t b bs ≡ doubled t b [] ++ bs
 doubled-append true b bs = refl

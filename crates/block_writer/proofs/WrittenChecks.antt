@@ -4,12 +4,10 @@ use Prim.Native.Nat.{ℕ, _%_}
 use native.Mathlib.Omega.{arith}
 use mathlib.Core.Bool.{true, false}
 use mathlib.Core.List.{List, [], _∷_, _++_, map}
-use lib.Bits.{bitXor}
 use Rattle.bits.specs.Strings.{add, xor, parity}
 use Rattle.bits.specs.Bytes.{bitsOf, pack}
 use Rattle.bits.proofs.Packing.{pack-lowBits}
 use Rattle.cyclic.specs.Check.{Parameters, checkBits, method3, method4}
-use Rattle.registers.specs.Register.{enterByTable, enterAllByTable}
 use Rattle.block.specs.declared.Method.{Method}
 use Rattle.block.specs.declared.Method.the-variants as method
 use Rattle.block.specs.declared.Parity.{Parity}
@@ -19,8 +17,7 @@ use Rattle.block.specs.Signs.{endByte}
 use Rattle.block.specs.Characters.{isSeven, isOdd, withParity, sent}
 use Rattle.block.specs.Check.{columnSums, matrixCheck, checkOf, xorAll}
 use Rattle.block.specs.Write.{innerSigns, countedBytes}
-use Rattle.block.proofs.Sums.{xorAll-append}
-use Rattle.block.proofs.CheckLaws.{enterAll-append, withParity-low, withParity-lt, matrix-character}
+use Rattle.block.proofs.CheckLaws.{withParity-low, withParity-lt, matrix-character}
 use Rattle.block_writer.specs.Writing.{checkedBytes}
 
 -- ---- eight-bit bytes are sent as they are
@@ -32,29 +29,16 @@ sent-eight p (b ∷ bs) = ap (λ l. b ∷ l) (sent-eight p bs)
 
 -- ---- the parts one after the other
 
-module _ (s : Shape) (e : EndSign) (head body : List ℕ) where
-  pub sum-of : {a b c d r : ℕ} → a ≡ xorAll 0 head → b ≡ xorAll a (innerSigns s) → c ≡ xorAll b body → d ≡ endByte e → r ≡ bitXor c d
-      → r ≡ xorAll 0 (checkedBytes s e head body)
-  unfolding checkedBytes xorAll
-  sum-of ea eb ec ed er =
-      er ∙ ap₂ bitXor (ec ∙ ap (λ z. xorAll z body) (eb ∙ ap (λ z. xorAll z (innerSigns s)) ea)) ed
-      ∙ sym
-      (xorAll-append 0 head (innerSigns s ++ (body ++ endByte e ∷ []))
-      ∙ xorAll-append (xorAll 0 head) (innerSigns s) (body ++ endByte e ∷ [])
-      ∙ xorAll-append (xorAll (xorAll 0 head) (innerSigns s)) body (endByte e ∷ []))
-
-  pub register-of : (table : List ℕ) (start : ℕ) {a b c d r : ℕ} → a ≡ enterAllByTable table start head
-      → b ≡ enterAllByTable table a (innerSigns s)
-      → c ≡ enterAllByTable table b body → d ≡ endByte e → r ≡ enterByTable table c d
-      → r ≡ enterAllByTable table start (checkedBytes s e head body)
-  unfolding checkedBytes enterAllByTable
-  register-of table start ea eb ec ed er =
-      let f = enterAllByTable table in
-      er ∙ ap₂ (enterByTable table) (ec ∙ ap (λ z. f z body) (eb ∙ ap (λ z. f z (innerSigns s)) ea)) ed
-      ∙ sym
-      (enterAll-append table start head (innerSigns s ++ (body ++ endByte e ∷ []))
-      ∙ enterAll-append table (f start head) (innerSigns s) (body ++ endByte e ∷ [])
-      ∙ enterAll-append table (f (f start head) (innerSigns s)) body (endByte e ∷ []))
+-- what adds up bytes one after the other: the sums of method 2, or the register of a generator
+pub parts-of : (fold : ℕ → List ℕ → ℕ) → ((a : ℕ) (xs ys : List ℕ) → fold a (xs ++ ys) ≡ fold (fold a xs) ys) → (s : Shape) (e : EndSign) (head body : List ℕ) (start : ℕ)
+    → {a b c r : ℕ} → a ≡ fold start head → b ≡ fold a (innerSigns s) → c ≡ fold b body → r ≡ fold c (endByte e ∷ []) → r ≡ fold start (checkedBytes s e head body)
+unfolding checkedBytes
+parts-of fold fold-append s e head body start ea eb ec er =
+    let end = endByte e ∷ [] in
+    er ∙ ap (λ z. fold z end) (ec ∙ ap (λ z. fold z body) (eb ∙ ap (λ z. fold z (innerSigns s)) ea))
+    ∙ sym
+    (fold-append start head (innerSigns s ++ (body ++ end)) ∙ fold-append (fold start head) (innerSigns s) (body ++ end)
+    ∙ fold-append (fold (fold start head) (innerSigns s)) body end)
 
 -- ---- methods 3 and 4
 

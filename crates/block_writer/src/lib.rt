@@ -4,6 +4,7 @@
 mod length;
 mod parts;
 mod put;
+mod sixteen;
 mod write;
 mod written_check;
 

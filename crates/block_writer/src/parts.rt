@@ -1,5 +1,6 @@
 // The questions on the parts of a block to be written: 1, 4, 2, 3 and 5.
 use crate::length::inner_length;
+use crate::sixteen::sixteen_free;
 use block::COUNTED_LIMIT;
 use block::DLE;
 use block::ETB;
@@ -11,9 +12,9 @@ use block::Shape;
 use block::US;
 ghost use mathlib.Core.Path.{_≡_};
 ghost use mathlib.Core.Bool.{false, cond, not, _&&_, _||_};
-ghost use Prim.Native.Nat.{_+_};
+ghost use Prim.Native.Nat.{_+_, _≤_};
 ghost use lib.Dec.{leb, eqb};
-ghost use lib.ListN.{length};
+ghost use lib.ListN.{length, drop};
 ghost use Rattle.block.specs.Write as rule;
 ghost use Rattle.block_writer.specs.Writing.{reservedFrom};
 
@@ -54,11 +55,25 @@ fn is_free(seven: bool, b: u8) -> bool
     }
 }
 
+// A place before which every byte is free, by steps of 16 bytes.
+fn free_up_to(seven: bool, part: &[u8]) -> usize
+    ensures { λ r. ⌜ (r ≤ length (now (part .entry))) × (reservedFrom seven r (drop r (now (part .entry))) ≡ reservedFrom seven 0 (now (part .entry))) ⌝ }
+{
+    let mut i = 0;
+    while part.len() - i >= 16 {
+        if !sixteen_free(seven, part, i) {
+            return i;
+        }
+        i += 16;
+    }
+    i
+}
+
 // The first place of a part whose byte is not free, or the part's length.
 pub fn first_reserved(seven: bool, part: &[u8]) -> usize
     ensures { λ r. ⌜ r ≡ reservedFrom seven 0 (now (part .entry)) ⌝ }
 {
-    let mut i = 0;
+    let mut i = free_up_to(seven, part);
     while i < part.len() {
         if !is_free(seven, part[i]) {
             return i;

@@ -12,7 +12,7 @@ ghost use mathlib.Core.Bool.{false, _&&_};
 ghost use mathlib.Core.List.{[], _∷_, map};
 ghost use Prim.Native.Nat.{_+_, _≤_};
 ghost use lib.Dec.{eqb};
-ghost use lib.ListN.{length};
+ghost use lib.ListN.{length, take};
 ghost use Rattle.block.specs.Signs as signs;
 ghost use Rattle.block.specs.Characters as characters;
 ghost use Rattle.block.specs.Write as rule;
@@ -34,8 +34,8 @@ pub fn put(b: u8, out: &mut [u8], at: usize) -> usize
     at + 1
 }
 
-// Characters, each with its parity bit in methods 1 and 2.
-pub fn put_characters(seven: bool, parity: Parity, part: &[u8], out: &mut [u8], at: usize) -> usize
+// Characters one by one, each with its parity bit in methods 1 and 2. Signs and checks are stored so: they are one or two bytes.
+pub fn put_each(seven: bool, parity: Parity, part: &[u8], out: &mut [u8], at: usize) -> usize
     requires { ⌜ at + length (now part) ≤ length (now out) ⌝ }
     ensures { λ r. ⌜ Stored (now (out .entry)) at (map (characters.sent seven parity) (now (part .entry))) (now (out .exit)) r ⌝ }
 {
@@ -46,6 +46,50 @@ pub fn put_characters(seven: bool, parity: Parity, part: &[u8], out: &mut [u8], 
         i += 1;
     }
     next
+}
+
+// The 16 bytes by which the first characters of a part are sent. The compiler makes all 16 at once.
+fn sixteen_sent(seven: bool, parity: Parity, part: &[u8]) -> [u8; 16]
+    requires { ⌜ 16 ≤ length (now part) ⌝ }
+    ensures { λ r. ⌜ r ≡ map (characters.sent seven parity) (take 16 (now (part .entry))) ⌝ }
+{
+    let mut bytes = [0u8; 16];
+    let mut i: usize = 0;
+    while i < 16 {
+        bytes[i] = sent(seven, parity, part[i]);
+        i += 1;
+    }
+    bytes
+}
+
+// Stores 16 bytes.
+fn put_sixteen(bytes: &[u8; 16], out: &mut [u8], at: usize) -> usize
+    requires { ⌜ (length (now bytes) ≡ 16) × (at + 16 ≤ length (now out)) ⌝ }
+    ensures { λ r. ⌜ Stored (now (out .entry)) at (now (bytes .entry)) (now (out .exit)) r ⌝ }
+{
+    let mut i: usize = 0;
+    while i < 16 {
+        out[at + i] = bytes[i];
+        i += 1;
+    }
+    at + 16
+}
+
+// Characters, each with its parity bit in methods 1 and 2. The compiler takes 32 and more together by itself; of 16 to 31, the first
+// 16 are made and stored at once here.
+pub fn put_characters(seven: bool, parity: Parity, part: &[u8], out: &mut [u8], at: usize) -> usize
+    requires { ⌜ at + length (now part) ≤ length (now out) ⌝ }
+    ensures { λ r. ⌜ Stored (now (out .entry)) at (map (characters.sent seven parity) (now (part .entry))) (now (out .exit)) r ⌝ }
+{
+    if part.len() < 16 {
+        return put_each(seven, parity, part, &mut *out, at);
+    }
+    if part.len() >= 32 {
+        return put_each(seven, parity, part, &mut *out, at);
+    }
+    let bytes = sixteen_sent(seven, parity, part);
+    let next = put_sixteen(&bytes, &mut *out, at);
+    put_each(seven, parity, &part[16..], &mut *out, next)
 }
 
 // One byte of clear text, DLE twice.
@@ -80,11 +124,11 @@ pub fn put_start(seven: bool, parity: Parity, shape: Shape, out: &mut [u8], at: 
     ensures { λ r. ⌜ Stored (now (out .entry)) at (map (characters.sent seven parity) (rule.startSigns shape)) (now (out .exit)) r ⌝ }
 {
     match shape {
-        Shape::Header => put_characters(seven, parity, &[SOH], &mut *out, at),
-        Shape::Text => put_characters(seven, parity, &[STX], &mut *out, at),
-        Shape::HeaderText => put_characters(seven, parity, &[SOH], &mut *out, at),
-        Shape::ClearText => put_characters(seven, parity, &[DLE, STX], &mut *out, at),
-        Shape::HeaderClearText => put_characters(seven, parity, &[SOH], &mut *out, at),
+        Shape::Header => put_each(seven, parity, &[SOH], &mut *out, at),
+        Shape::Text => put_each(seven, parity, &[STX], &mut *out, at),
+        Shape::HeaderText => put_each(seven, parity, &[SOH], &mut *out, at),
+        Shape::ClearText => put_each(seven, parity, &[DLE, STX], &mut *out, at),
+        Shape::HeaderClearText => put_each(seven, parity, &[SOH], &mut *out, at),
     }
 }
 
@@ -96,9 +140,9 @@ pub fn put_inner(seven: bool, parity: Parity, shape: Shape, out: &mut [u8], at: 
     match shape {
         Shape::Header => at,
         Shape::Text => at,
-        Shape::HeaderText => put_characters(seven, parity, &[STX], &mut *out, at),
+        Shape::HeaderText => put_each(seven, parity, &[STX], &mut *out, at),
         Shape::ClearText => at,
-        Shape::HeaderClearText => put_characters(seven, parity, &[DLE, STX], &mut *out, at),
+        Shape::HeaderClearText => put_each(seven, parity, &[DLE, STX], &mut *out, at),
     }
 }
 
@@ -118,8 +162,8 @@ pub fn put_body(
     let sign = end_byte(end);
     if clear {
         let next = put_escaped(text, &mut *out, at);
-        return put_characters(seven, parity, &[DLE, sign], &mut *out, next);
+        return put_each(seven, parity, &[DLE, sign], &mut *out, next);
     }
     let next = put_characters(seven, parity, text, &mut *out, at);
-    put_characters(seven, parity, &[sign], &mut *out, next)
+    put_each(seven, parity, &[sign], &mut *out, next)
 }

@@ -8,6 +8,7 @@ use crate::parts::parts_fit;
 use crate::put::put;
 use crate::put::put_body;
 use crate::put::put_characters;
+use crate::put::put_each;
 use crate::put::put_inner;
 use crate::put::put_start;
 use crate::written_check::check_3;
@@ -55,11 +56,11 @@ fn put_check(
         }
         Method::Cyclic => {
             let check = check_3(shape, end, header, text);
-            put_characters(false, parity, &check, &mut *out, at)
+            put_each(false, parity, &check, &mut *out, at)
         }
         Method::CyclicAlternative => {
             let check = check_4(shape, end, header, text);
-            put_characters(false, parity, &check, &mut *out, at)
+            put_each(false, parity, &check, &mut *out, at)
         }
     }
 }

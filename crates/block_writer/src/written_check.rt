@@ -7,60 +7,61 @@ use block::end_byte;
 use block::sum_slice;
 use cyclic::Cyclic3;
 use cyclic::Cyclic4;
-use registers::enter_byte16;
-use registers::enter_slice16;
+use folding::Generator16;
+use folding::enter_one;
+use folding::enter_run;
 use registers::sent16;
 ghost use mathlib.Core.Path.{_≡_};
 ghost use Rattle.bits.specs.Bytes.{bitsOf, pack};
 ghost use Rattle.cyclic.specs.Check.{checkBits, method3, method4};
-ghost use Rattle.registers.specs.Register.{enterAllByTable};
+ghost use Rattle.folding.specs.Fold.{registerAfter};
 ghost use Rattle.block.specs.Check.{xorAll};
 ghost use Rattle.block.specs.Write as rule;
 ghost use Rattle.block_writer.specs.Writing.{checkedBytes};
 
 // The inner start enters a register.
-fn inner_register(table: &[u16; 256], start: u16, shape: Shape) -> u16
-    ensures { λ r. ⌜ r ≡ enterAllByTable (now (table .entry)) start (rule.innerSigns shape) ⌝ }
+fn inner_register(g: Generator16, start: u16, shape: Shape) -> u16
+    ensures { λ r. ⌜ r ≡ registerAfter g start (rule.innerSigns shape) ⌝ }
 {
     match shape {
         Shape::Header => start,
         Shape::Text => start,
-        Shape::HeaderText => enter_byte16(table, start, STX),
+        Shape::HeaderText => enter_one(g, start, STX),
         Shape::ClearText => start,
-        Shape::HeaderClearText => enter_byte16(table, enter_byte16(table, start, DLE), STX),
+        Shape::HeaderClearText => enter_one(g, enter_one(g, start, DLE), STX),
     }
 }
 
 // The register of methods 3 and 4 after the counted bytes.
 fn written_register(
-    table: &[u16; 256],
+    g: Generator16,
     start: u16,
     shape: Shape,
     end: EndSign,
     header: &[u8],
     text: &[u8],
 ) -> u16
-    ensures { λ r. ⌜ r ≡ enterAllByTable (now (table .entry)) start (checkedBytes shape end (now (header .entry)) (now (text .entry))) ⌝ }
+    ensures { λ r. ⌜ r ≡ registerAfter g start (checkedBytes shape end (now (header .entry)) (now (text .entry))) ⌝ }
 {
-    let head = enter_slice16(table, start, header);
-    let inner = inner_register(table, head, shape);
-    let body = enter_slice16(table, inner, text);
-    enter_byte16(table, body, end_byte(end))
+    let head = enter_run(g, start, header);
+    let inner = inner_register(g, head, shape);
+    let body = enter_run(g, inner, text);
+    enter_one(g, body, end_byte(end))
 }
 
 pub fn check_3(shape: Shape, end: EndSign, header: &[u8], text: &[u8]) -> [u8; 2]
     ensures { λ r. ⌜ r ≡ pack (checkBits method3 (bitsOf (checkedBytes shape end (now (header .entry)) (now (text .entry))))) ⌝ }
 {
-    let table = Cyclic3::table();
-    let register = written_register(&table, Cyclic3::START, shape, end, header, text);
+    let g = Generator16::Ccitt;
+    let register = written_register(g, Cyclic3::START, shape, end, header, text);
     sent16(Cyclic3 { register }.check())
 }
 
 pub fn check_4(shape: Shape, end: EndSign, header: &[u8], text: &[u8]) -> [u8; 2]
     ensures { λ r. ⌜ r ≡ pack (checkBits method4 (bitsOf (checkedBytes shape end (now (header .entry)) (now (text .entry))))) ⌝ }
 {
-    let table = Cyclic4::table();
-    let register = written_register(&table, Cyclic4::START, shape, end, header, text);
+    let g = Generator16::Ibm;
+    let register = written_register(g, Cyclic4::START, shape, end, header, text);
     sent16(Cyclic4 { register }.check())
 }
 

@@ -1,5 +1,5 @@
 -- `first_reserved` meets its contract. The loop's invariant: what is left to search gives the whole. The measure is what is left. Assumes nothing.
-use mathlib.Core.Path.{_≡_, refl}
+use mathlib.Core.Path.{_≡_}
 use Prim.Native.Nat.{_-_}
 use native.Mathlib.Omega.{arith}
 use lib.ListN.{length, drop}
@@ -16,8 +16,11 @@ Inv-loop seven part i₀ i = reservedFrom seven i (drop i part) ≡ reservedFrom
 abbrev μ-loop : tie.MeasureT-loop
 μ-loop seven part i₀ i = length part - i
 
+free-up-to-requires : tie.Need-free-up-to-requires Inv-loop μ-loop
+free-up-to-requires c κs = search needs
+
 loop-holds : tie.Need-loop-holds Inv-loop μ-loop
-loop-holds c = refl
+loop-holds c = c .free-up-to .ensures .1
 
 shared-slice-read-is-free : tie.Need-shared-slice-read-is-free Inv-loop μ-loop
 shared-slice-read-is-free c = search needs
@@ -50,6 +53,7 @@ first-reserved-spec =
     (tie.spec
     Inv-loop
     μ-loop
+    free-up-to-requires
     loop-holds
     shared-slice-read-is-free
     is-free-requires

@@ -16,11 +16,11 @@ put-escaped-requires c κs =
     let s = c .before .before .before .before .before in
     omega (arith, s .pre .0, length-clear (s .args .end) (s .args .text .now) (c .before .if1 .taken))
 
-slice-aggregate-put-characters : tie.Need-slice-aggregate-put-characters
-slice-aggregate-put-characters c = search needs
+slice-aggregate-put-each : tie.Need-slice-aggregate-put-each
+slice-aggregate-put-each c = search needs
 
-put-characters-requires : tie.Need-put-characters-requires
-put-characters-requires c κs =
+put-each-requires : tie.Need-put-each-requires
+put-each-requires c κs =
     let k = c .before .before .before .before in
     let s = k .before .before .before .before .before .before in
     omega (
@@ -40,22 +40,22 @@ returns c =
     let s = k .before .before .before .before .before .before in
     let a = s .args in
     clear-body (a .seven) (a .parity) (a .end) (a .text .now) (k .before .before .if1 .taken) (s .pre .1) (k .before .before .before .end-byte .ensures)
-    (k .put-escaped .ensures) (c .before .before .put-characters .ensures)
+    (k .put-escaped .ensures) (c .before .before .put-each .ensures)
 
-put-characters-requires-2 : tie.Need-put-characters-requires-2
-put-characters-requires-2 c κs =
+put-characters-requires : tie.Need-put-characters-requires
+put-characters-requires c κs =
     let s = c .before .before .before .before .before in
     omega (arith, s .pre .0, length-plain (s .args .end) (s .args .text .now) (c .before .if1 .left))
 
-slice-aggregate-put-characters-2 : tie.Need-slice-aggregate-put-characters-2
-slice-aggregate-put-characters-2 c = search needs
+slice-aggregate-put-each-2 : tie.Need-slice-aggregate-put-each-2
+slice-aggregate-put-each-2 c = search needs
 
-put-characters-requires-3 : tie.Need-put-characters-requires-3
-put-characters-requires-3 c κs =
+put-each-requires-2 : tie.Need-put-each-requires-2
+put-each-requires-2 c κs =
     let k = c .before .before .before .before in
     let s = k .before .before .before .before .before .before in
     let a = s .args in
-    let z = size-stored (sent (a .seven) (a .parity)) (a .text .now) (k .put-characters2 .ensures) in
+    let z = size-stored (sent (a .seven) (a .parity)) (a .text .now) (k .put-characters .ensures) in
     omega (arith, s .pre .0, length-plain (a .end) (a .text .now) (k .before .before .if1 .left), z .0, z .1)
 
 same-length-2 : tie.Need-same-length-2
@@ -66,7 +66,7 @@ returns-2 c =
     let k = c .before .before .before .before .before .before .before in
     let a = k .before .before .before .before .before .before .args in
     plain-body (a .seven) (a .parity) (a .end) (a .text .now) (k .before .before .if1 .left) (k .before .before .before .end-byte .ensures)
-    (k .put-characters2 .ensures) (c .before .before .put-characters3 .ensures)
+    (k .put-characters .ensures) (c .before .before .put-each2 .ensures)
 
 pub put-body-spec : {M : Type 1} → statement M
 put-body-spec =
@@ -74,12 +74,12 @@ put-body-spec =
     (tie.spec
     end-byte-requires
     put-escaped-requires
-    slice-aggregate-put-characters
-    put-characters-requires
+    slice-aggregate-put-each
+    put-each-requires
     same-length
     returns
-    put-characters-requires-2
-    slice-aggregate-put-characters-2
-    put-characters-requires-3
+    put-characters-requires
+    slice-aggregate-put-each-2
+    put-each-requires-2
     same-length-2
     returns-2)

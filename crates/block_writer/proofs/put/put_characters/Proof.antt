@@ -1,77 +1,72 @@
--- `put_characters` meets its contract. The loop's invariant: what is left to store gives the whole. The measure is what is left.
--- Assumes nothing.
-use mathlib.Core.Path.{ap}
-use Prim.Native.Nat.{ℕ, _+_, _-_}
-use native.Mathlib.Omega.{arith}
-use mathlib.Core.List.{[], _∷_, map}
-use lib.ListN.{length, getD, drop, length-map}
+-- `put_characters` meets its contract: the first 16 bytes and the rest, stored one after the other, are the whole. Assumes nothing.
 use borrow.Author.Needs.{needs}
 use Rattle.block.specs.Characters.{sent}
-use Rattle.block_writer.proofs.Stores.{Storing, begin, room, turn, whole, stored-as, map-on, map-out}
+use Rattle.block_writer.proofs.Stores.{stored-as, stored-append, map-parts}
 use Rattle.block_writer.proofs.put.put_characters.Statement.{statement}
 use Rattle.block_writer.proofs.put.put_characters.Tie as tie
 
-abbrev Inv-loop : tie.InvT-loop
-Inv-loop seven parity part out₀ at i₀ next₀ out i next =
-    Storing out₀ at (map (sent seven parity) part) out next (map (sent seven parity) (drop i part))
+put-each-requires : tie.Need-put-each-requires
+put-each-requires c κs = search needs
 
-abbrev μ-loop : tie.MeasureT-loop
-μ-loop seven parity part out₀ at i₀ next₀ out i next = length part - i
+same-length : tie.Need-same-length
+same-length c = search needs
 
-loop-holds : tie.Need-loop-holds Inv-loop μ-loop
-loop-holds c = begin
+returns : tie.Need-returns
+returns c = search needs
 
-shared-slice-read-sent : tie.Need-shared-slice-read-sent Inv-loop μ-loop
-shared-slice-read-sent c = search needs
+put-each-requires-2 : tie.Need-put-each-requires-2
+put-each-requires-2 c κs = search needs
 
-sent-requires : tie.Need-sent-requires Inv-loop μ-loop
-sent-requires c κs = search needs
+same-length-2 : tie.Need-same-length-2
+same-length-2 c = search needs
 
-put-requires : tie.Need-put-requires Inv-loop μ-loop
-put-requires c κs =
-    let l = c .before .before .before .before in
-    let a = l .before .before .before .args in
-    let f : ℕ → ℕ = sent (a .seven) (a .parity) in
-    let part = a .part .now in
-    let i = l .loop .i in
-    room (f (getD part i 0) ∷ []) (map f (drop (i + 1) part)) (l .loop .inv) (map-on f part i (c .before .before .before .loop-test .taken))
-    (omega (arith, l .before .before .before .pre, length-map part f))
+returns-2 : tie.Need-returns-2
+returns-2 c = search needs
 
-add-i : tie.Need-add-i Inv-loop μ-loop
-add-i c = omega arith
+sixteen-sent-requires : tie.Need-sixteen-sent-requires
+sixteen-sent-requires c κs = search needs
 
-loop-less : tie.Need-loop-less Inv-loop μ-loop
-loop-less c = omega arith
+put-sixteen-requires : tie.Need-put-sixteen-requires
+put-sixteen-requires c κs = search needs
 
-loop-again : tie.Need-loop-again Inv-loop μ-loop
-loop-again c =
-    let s = c .before .before .before .before in
-    let l = s .before .before .before in
-    let a = l .before .before .before .args in
-    turn (l .loop .inv) (map-on (sent (a .seven) (a .parity)) (a .part .now) (l .loop .i) (s .before .before .loop-test .taken))
-    (stored-as (ap (λ b. b ∷ []) (s .sent .ensures)) (c .before .before .put .ensures))
+sub-put-each : tie.Need-sub-put-each
+sub-put-each c = search needs
 
-same-length : tie.Need-same-length Inv-loop μ-loop
-same-length c = c .before .loop .inv .same
+part-put-each-start : tie.Need-part-put-each-start
+part-put-each-start c = search needs
 
-returns : tie.Need-returns Inv-loop μ-loop
-returns c =
-    let l = c .before in
-    let a = l .before .before .before .args in
-    whole (l .loop .inv) (map-out (sent (a .seven) (a .parity)) (a .part .now) (l .loop .i) (c .loop-test .left))
+part-put-each-end : tie.Need-part-put-each-end
+part-put-each-end c = search needs
+
+put-each-requires-3 : tie.Need-put-each-requires-3
+put-each-requires-3 c κs = search needs
+
+same-length-3 : tie.Need-same-length-3
+same-length-3 c = search needs
+
+returns-3 : tie.Need-returns-3
+returns-3 c =
+    let s = c .before .before .before .before .before .before .before in
+    let h = s .before .before .before in
+    let a = h .before .before .before .before .before .args in
+    stored-as (map-parts (sent (a .seven) (a .parity)) (a .part .now) 16)
+    (stored-append (stored-as (h .sixteen-sent .ensures) (s .put-sixteen .ensures)) (c .before .before .put-each3 .ensures))
 
 pub put-characters-spec : {M : Type 1} → statement M
 put-characters-spec =
     tie.close
     (tie.spec
-    Inv-loop
-    μ-loop
-    loop-holds
-    shared-slice-read-sent
-    sent-requires
-    put-requires
-    add-i
-    loop-less
-    loop-again
+    put-each-requires
     same-length
-    returns)
+    returns
+    put-each-requires-2
+    same-length-2
+    returns-2
+    sixteen-sent-requires
+    put-sixteen-requires
+    sub-put-each
+    part-put-each-start
+    part-put-each-end
+    put-each-requires-3
+    same-length-3
+    returns-3)

@@ -35,11 +35,11 @@ enum-told-3 c = search needs
 check-3-requires : tie.Need-check-3-requires
 check-3-requires c κs = search needs
 
-slice-aggregate-put-characters : tie.Need-slice-aggregate-put-characters
-slice-aggregate-put-characters c = search needs
+slice-aggregate-put-each : tie.Need-slice-aggregate-put-each
+slice-aggregate-put-each c = search needs
 
-put-characters-requires : tie.Need-put-characters-requires
-put-characters-requires c κs =
+put-each-requires : tie.Need-put-each-requires
+put-each-requires c κs =
     let k = c .before .before in
     let s = k .before .before .before .before .before .before in
     let a = s .args in
@@ -55,11 +55,11 @@ enum-told-4 c = search needs
 check-4-requires : tie.Need-check-4-requires
 check-4-requires c κs = search needs
 
-slice-aggregate-put-characters-2 : tie.Need-slice-aggregate-put-characters-2
-slice-aggregate-put-characters-2 c = search needs
+slice-aggregate-put-each-2 : tie.Need-slice-aggregate-put-each-2
+slice-aggregate-put-each-2 c = search needs
 
-put-characters-requires-2 : tie.Need-put-characters-requires-2
-put-characters-requires-2 c κs =
+put-each-requires-2 : tie.Need-put-each-requires-2
+put-each-requires-2 c κs =
     let k = c .before .before in
     let s = k .before .before .before .before .before .before in
     let a = s .args in
@@ -94,7 +94,7 @@ returns-3 c =
     let a = k .before .before .before .before .before .args in
     rw (k .enum-told3 .given .1)
     (stored-as (check-3-of (a .parity) (a .shape) (a .end) (a .header .now) (a .text .now) (c .before .before .before .before .before .check-3 .ensures))
-    (c .before .before .put-characters .ensures))
+    (c .before .before .put-each .ensures))
 
 same-length-3 : tie.Need-same-length-3
 same-length-3 c = search needs
@@ -105,7 +105,7 @@ returns-4 c =
     let a = k .before .before .before .before .before .args in
     rw (k .enum-told4 .given .1)
     (stored-as (check-4-of (a .parity) (a .shape) (a .end) (a .header .now) (a .text .now) (c .before .before .before .before .before .check-4 .ensures))
-    (c .before .before .put-characters2 .ensures))
+    (c .before .before .put-each2 .ensures))
 
 pub put-check-spec : {M : Type 1} → statement M
 put-check-spec =
@@ -118,12 +118,12 @@ put-check-spec =
     put-requires
     enum-told-3
     check-3-requires
-    slice-aggregate-put-characters
-    put-characters-requires
+    slice-aggregate-put-each
+    put-each-requires
     enum-told-4
     check-4-requires
-    slice-aggregate-put-characters-2
-    put-characters-requires-2
+    slice-aggregate-put-each-2
+    put-each-requires-2
     returns
     same-length
     returns-2

@@ -1,37 +1,42 @@
 -- `written_register` meets its contract: the parts enter one after the other. Assumes nothing.
+use mathlib.Core.Path.{ap, _∙_}
+use mathlib.Core.List.{[], _∷_}
 use borrow.Author.Needs.{needs}
-use Rattle.block_writer.proofs.WrittenChecks.{register-of}
+use Rattle.folding.specs.Fold.{registerAfter}
+use Rattle.folding.proofs.Registers.{after-append}
+use Rattle.block_writer.proofs.WrittenChecks.{parts-of}
 use Rattle.block_writer.proofs.written_check.written_register.Statement.{statement}
 use Rattle.block_writer.proofs.written_check.written_register.Tie as tie
 
-enter-slice16-requires : tie.Need-enter-slice16-requires
-enter-slice16-requires c κs = search needs
+enter-run-requires : tie.Need-enter-run-requires
+enter-run-requires c κs = search needs
 
 inner-register-requires : tie.Need-inner-register-requires
 inner-register-requires c κs = search needs
 
-enter-slice16-requires-2 : tie.Need-enter-slice16-requires-2
-enter-slice16-requires-2 c κs = search needs
+enter-run-requires-2 : tie.Need-enter-run-requires-2
+enter-run-requires-2 c κs = search needs
 
 end-byte-requires : tie.Need-end-byte-requires
 end-byte-requires c κs = search needs
 
-enter-byte16-requires : tie.Need-enter-byte16-requires
-enter-byte16-requires c κs = search needs
+enter-one-requires : tie.Need-enter-one-requires
+enter-one-requires c κs = search needs
 
 returns : tie.Need-returns
 returns c =
     let b = c .before .before .before .before .before .before .before .args in
-    register-of (b .shape) (b .end) (b .header .now) (b .text .now) (b .table .now) (b .start) (c .before .before .before .before .enter-slice16 .ensures)
-    (c .before .before .before .inner-register .ensures) (c .before .before .enter-slice162 .ensures) (c .before .end-byte .ensures) (c .enter-byte16 .ensures)
+    parts-of (registerAfter (b .g)) (after-append (b .g)) (b .shape) (b .end) (b .header .now) (b .text .now) (b .start) (c .before .before .before .before .enter-run .ensures)
+    (c .before .before .before .inner-register .ensures) (c .before .before .enter-run2 .ensures)
+    (c .enter-one .ensures ∙ ap (λ x. registerAfter (b .g) (c .before .before .enter-run2 .result) (x ∷ [])) (c .before .end-byte .ensures))
 
 pub written-register-spec : {M : Type 1} → statement M
 written-register-spec =
     tie.close
     (tie.spec
-    enter-slice16-requires
+    enter-run-requires
     inner-register-requires
-    enter-slice16-requires-2
+    enter-run-requires-2
     end-byte-requires
-    enter-byte16-requires
+    enter-one-requires
     returns)

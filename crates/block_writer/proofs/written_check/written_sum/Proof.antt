@@ -1,7 +1,10 @@
 -- `written_sum` meets its contract: the parts are summed one after the other. Assumes nothing.
-use mathlib.Core.Path.{refl}
+use mathlib.Core.Path.{ap}
+use lib.Bits.{bitXor}
+use Rattle.block.specs.Check.{xorAll}
+use Rattle.block.proofs.Sums.{xorAll-append}
 use borrow.Author.Needs.{needs}
-use Rattle.block_writer.proofs.WrittenChecks.{sum-of}
+use Rattle.block_writer.proofs.WrittenChecks.{parts-of}
 use Rattle.block_writer.proofs.written_check.written_sum.Statement.{statement}
 use Rattle.block_writer.proofs.written_check.written_sum.Tie as tie
 
@@ -18,10 +21,11 @@ end-byte-requires : tie.Need-end-byte-requires
 end-byte-requires c κs = search needs
 
 returns : tie.Need-returns
+unfolding xorAll
 returns c =
     let b = c .before .before .before .before .before .before .args in
-    sum-of (b .shape) (b .end) (b .header .now) (b .text .now) (c .before .before .before .sum-slice .ensures) (c .before .before .inner-sum .ensures)
-    (c .before .sum-slice2 .ensures) (c .end-byte .ensures) refl
+    parts-of xorAll xorAll-append (b .shape) (b .end) (b .header .now) (b .text .now) 0 (c .before .before .before .sum-slice .ensures) (c .before .before .inner-sum .ensures)
+    (c .before .sum-slice2 .ensures) (ap (bitXor (c .before .sum-slice2 .result)) (c .end-byte .ensures))
 
 pub written-sum-spec : {M : Type 1} → statement M
 written-sum-spec =
