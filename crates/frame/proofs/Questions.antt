@@ -27,16 +27,17 @@ use Rattle.frame.proofs.WholeBytes.{drop-take}
 pub record Sizes (m : Parameters) : Type 0 where
   pub whole-bytes : width m % 8 ≡ 0
   pub width-small : width m ≤ 32
+  pub width-large : 16 ≤ width m
   pub limit-small : m .limit ≤ 65536
 
 pub sizes : (m : FrameMethod) → Sizes (parametersOf m)
 unfolding method5 method6
 sizes method.Cyclic16 =
     let w = width-5 .generator .width in
-    record { whole-bytes = omega arith; width-small = omega arith; limit-small = omega arith }
+    record { whole-bytes = omega arith; width-small = omega arith; width-large = omega arith; limit-small = omega arith }
 sizes method.Cyclic32 =
     let w = width-6 .generator .width in
-    record { whole-bytes = omega arith; width-small = omega arith; limit-small = omega arith }
+    record { whole-bytes = omega arith; width-small = omega arith; width-large = omega arith; limit-small = omega arith }
 
 -- ---- 33 to 36, of what zero removal gives
 

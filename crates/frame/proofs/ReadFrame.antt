@@ -22,7 +22,7 @@ use Rattle.frame.specs.Frame.{parametersOf, width, flag}
 use Rattle.frame.specs.Read.{Framed, ask, askZeros, between, framed, contentOf, checkIn, ReadAnswer, taken, refusal, askCheck, readBits, readFrame, readOutput}
 use Rattle.frame.specs.Read as rule
 use Rattle.frame.specs.Answers.{content, refused, readNumber, readValue, ofReadAnswer}
-use Rattle.frame.specs.Steps.{dataOf, left, behindFlag, found, unframed, ofWalk, framedAnswer}
+use Rattle.frame.specs.Steps.{dataOf, dataBetween, found, unframed, ofWalk, framedAnswer}
 use Rattle.frame.proofs.WholeBytes.{packInto-pack}
 use Rattle.frame.proofs.Questions.{sizes, answer, told-length, all-but-eight}
 
@@ -51,10 +51,10 @@ zeros-passed m (clean t) s e =
 pub record FramingFound (method : FrameMethod) (lent : List ℕ) (told end count : ℕ) : Type 0 where
   pub within : told ≤ 8 * length lent
   pub end-within : end ≤ 8 * length lent
-  pub framed-is : framed (parametersOf method) (take told (bitsOf lent)) ≡ rule.found (left (bitsOf lent) end behindFlag)
-  pub counted : count ≡ length (left (bitsOf lent) end behindFlag)
-  pub whole : length (left (bitsOf lent) end behindFlag) % 8 ≡ 0
-  pub has-content : 8 + width (parametersOf method) ≤ length (left (bitsOf lent) end behindFlag)
+  pub framed-is : framed (parametersOf method) (take told (bitsOf lent)) ≡ rule.found (dataBetween (bitsOf lent) end)
+  pub counted : count ≡ length (dataBetween (bitsOf lent) end)
+  pub whole : length (dataBetween (bitsOf lent) end) % 8 ≡ 0
+  pub has-content : 8 + width (parametersOf method) ≤ length (dataBetween (bitsOf lent) end)
 
 framed-found : (method : FrameMethod) (lent : List ℕ) (told : ℕ) → told ≤ 8 * length lent → (f : Framed) → framed (parametersOf method) (take told (bitsOf lent)) ≡ f
     → {end count : ℕ} → found end count ≡ framedAnswer (told - 8) f → FramingFound method lent told end count
@@ -74,9 +74,9 @@ framed-found method lent told within (rule.found s) q {end} {count} e =
     let sixteen : 16 ≤ told = omega (arith, leb-true 16 (length frame) (a .0)) in
     let at : end ≡ told - 8 = cc in
     let n : count ≡ length s = cc in
-    let is : s ≡ left bits end behindFlag =
+    let is : s ≡ dataBetween bits end =
     z .0 ∙ ap (λ k. dataOf (unstuff 0 8 (slice 8 (k - 8) frame))) size
-    ∙ ap (λ l. dataOf (unstuff 0 8 (drop 8 l))) (all-but-eight m lent told within sixteen) ∙ ap (λ k. left bits k behindFlag) (sym at) in
+    ∙ ap (λ l. dataOf (unstuff 0 8 (drop 8 l))) (all-but-eight m lent told within sixteen) ∙ ap (λ k. dataBetween bits k) (sym at) in
     record {
       within = within;
       end-within = omega arith;
@@ -114,14 +114,14 @@ unfolding readOutput
 is-refused out e = (sym (ap ofReadAnswer e), sym (ap (λ x. readOutput x out) e))
 
 module _ {method : FrameMethod} {lent : List ℕ} {told end count : ℕ} (f : FramingFound method lent told end count) (out : List ℕ) {r : Bool}
-    (asked : r ≡ same (checkIn (parametersOf method) (left (bitsOf lent) end behindFlag)) (checkBits (parametersOf method) (contentOf (parametersOf method) (left (bitsOf lent) end behindFlag))))
+    (asked : r ≡ same (checkIn (parametersOf method) (dataBetween (bitsOf lent) end)) (checkBits (parametersOf method) (contentOf (parametersOf method) (dataBetween (bitsOf lent) end))))
   where
     abbrev m : Parameters
     m = parametersOf method
 
     -- content and check, and the content alone
     abbrev s : List Bool
-    s = left (bitsOf lent) end behindFlag
+    s = dataBetween (bitsOf lent) end
 
     abbrev c : List Bool
     c = contentOf m s

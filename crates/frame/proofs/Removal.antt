@@ -3,17 +3,12 @@ use mathlib.Core.Path.{_≡_, sym, ap, _∙_}
 use mathlib.Core.Bool.{Bool, true, false, cond}
 use mathlib.Core.List.{List, []}
 use Prim.Native.Nat.{ℕ, _+_, _≤_, _<_}
-use native.Mathlib.Omega.{arith}
 use native.Mathlib.Numerals.{add-one}
 use borrow.Author.Tests.{eq-eqb, ne-eqb}
 use lib.Dec.{eqb}
 use lib.ListN.{length, getD}
 use lib.Seq.{slice, slice-cons, slice-empty}
 use Rattle.frame.specs.Stuffing.{clean, missing, ahead, unstuffBit, onesAfter, unstuff}
-
-pub onesAfter-le : (run : ℕ) (b : Bool) → run ≤ 5 → (run ≡ 5 → ⊥) → onesAfter run b ≤ 5
-onesAfter-le run true h n = omega arith
-onesAfter-le run false h n = omega arith
 
 module _ (bits : List Bool) (run at end : ℕ) where
   -- ---- a bit before the end

@@ -3,4 +3,5 @@ pub mod Frame
 pub mod Write
 pub mod Read
 pub mod Answers
+pub mod Bytewise
 pub mod Steps

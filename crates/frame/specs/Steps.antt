@@ -1,36 +1,63 @@
 -- What the steps of the code compute, bit by bit. The rules do not rest on these definitions. Assumes nothing.
-use Prim.Native.Nat.{ℕ, _+_, _*_, _/_, _%_, _^_}
-use mathlib.Core.Bool.{Bool}
-use mathlib.Core.List.{List, [], _∷_}
-use lib.ListN.{length, getD, set}
-use lib.Seq.{slice}
-use Rattle.bits.specs.Bytes.{digit}
+use mathlib.Core.Path.{_≡_}
+use Prim.Native.Nat.{ℕ, _+_, _-_, _*_, _/_, _%_, _^_, _<_, _≤_}
+use mathlib.Core.Bool.{Bool, true, false}
+use mathlib.Core.List.{List, [], _++_}
+use lib.Dec.{eqb}
+use lib.ListN.{length}
+use lib.Seq.{slice, sets}
+use Rattle.bits.specs.Bytes.{lowBits, bitsOf, packInto, pack}
+use Rattle.bits.specs.Strings.{same}
+use Rattle.cyclic.specs.Check.{Parameters, checkBits}
+use Rattle.frame.specs.declared.ReadRefusal.the-variants as reading
+use Rattle.frame.specs.Frame.{width}
+use Rattle.registers.specs.Register.{enterAllByTable}
 use Rattle.frame.specs.declared.BitWriter.{BitWriter}
-use Rattle.frame.specs.declared.BitReader.{BitReader}
+use Rattle.frame.specs.declared.ZeroCount.{ZeroCount}
+use Rattle.frame.specs.declared.LineReader.{LineReader}
+use Rattle.frame.specs.declared.ByteRead.{ByteRead}
+use Rattle.frame.specs.declared.ReceivedByte.{ReceivedByte}
+use Rattle.frame.specs.declared.Rest.{Rest}
+use Rattle.frame.specs.declared.Rest.the-variants as last
+use Rattle.frame.specs.declared.Judged.{Judged}
+use Rattle.frame.specs.declared.Judged.the-variants as pass
 use Rattle.frame.specs.declared.WalkEnd.{WalkEnd}
 use Rattle.frame.specs.declared.WalkEnd.the-variants as walk
 use Rattle.frame.specs.Stuffing.{stuff, runAfter, Unstuffed, clean, missing, unstuff}
+use Rattle.frame.specs.Bytewise.{runBefore, onesBefore, inFront}
 use Rattle.frame.specs.Read as rule
 use Rattle.frame.specs.Answers.{readNumber, readValue, Numbers, refused}
 
 -- ---- writing
 
--- the writer after the bits s, with the zeros inserted
-abbrev pub writerAfter : BitWriter → List Bool → BitWriter
-writerAfter w s = record { at = w .at + length (stuff (w .run) s); run = runAfter (w .run) s }
+-- a writer's place is one of a byte, and what it holds has that many bits
+pub record Fits (w : BitWriter) : Type 0 where
+  pub place-small : w .place < 8
+  pub held-small : w .held < 2 ^ w .place
+  pub before-small : w .before < 16
 
--- the bit b at the place p of the byte k; what stands above it in that byte becomes zero
-unfoldable pub putAt : List ℕ → ℕ → ℕ → Bool → List ℕ
-putAt l k p b = set l k (getD l k 0 % 2 ^ p + digit b * 2 ^ p)
+-- the bits written
+abbrev pub position : BitWriter → ℕ
+position w = 8 * w .index + w .place
 
--- bits put one after the other, from the place `at` on
-unfoldable pub putBits : List ℕ → ℕ → List Bool → List ℕ
-putBits l at [] = l
-putBits l at (b ∷ s) = putBits (putAt l (at / 8) (at % 8) b) (at + 1) s
+-- the output once the bits s follow what the writer holds, and nothing after them
+abbrev pub stored : List ℕ → BitWriter → List Bool → List ℕ
+stored out w s = sets out (w .index) (pack (lowBits (w .place) (w .held) ++ s))
 
--- the output after the bits s, with the zeros inserted
-abbrev pub putStuffed : List ℕ → BitWriter → List Bool → List ℕ
-putStuffed out w s = putBits out (w .at) (stuff (w .run) s)
+-- the bits s put with the zeros inserted, whatever follows. The running pair of the writer is the number of bits written divided
+-- by eight, and what is left over
+pub record Puts (out : List ℕ) (w : BitWriter) (s : List Bool) (after : List ℕ) (r : BitWriter) : Type 0 where
+  pub fits : Fits r
+  pub index-is : r .index ≡ (position w + length (stuff (runBefore (w .before)) s)) / 8
+  pub place-is : r .place ≡ (position w + length (stuff (runBefore (w .before)) s)) % 8
+  pub run-is : runBefore (r .before) ≡ runAfter (runBefore (w .before)) s
+  pub rest : (t : List Bool) → stored after r t ≡ stored out w (stuff (runBefore (w .before)) s ++ t)
+
+-- the zeros inserted into the bits s, added to those before
+pub record Counts (c : ZeroCount) (s : List Bool) (r : ZeroCount) : Type 0 where
+  pub zeros-are : r .zeros + length s ≡ c .zeros + length (stuff (runBefore (c .before)) s)
+  pub run-is : runBefore (r .before) ≡ runAfter (runBefore (c .before)) s
+  pub before-small : r .before < 16
 
 -- ---- reading
 
@@ -39,13 +66,62 @@ unfoldable pub dataOf : Unstuffed → List Bool
 dataOf (clean s) = s
 dataOf (missing p) = []
 
--- those that a reader has still to give, before the place `end`
-abbrev pub left : List Bool → ℕ → BitReader → List Bool
-left bits end r = dataOf (unstuff (r .run) (r .at) (slice (r .at) end bits))
+-- those between the flags, where the closing flag stands at the place `end`
+abbrev pub dataBetween : List Bool → ℕ → List Bool
+dataBetween bits end = dataOf (unstuff 0 8 (slice 8 end bits))
 
--- where they start, behind the opening flag
-abbrev pub behindFlag : BitReader
-behindFlag = record { at = 8; run = 0 }
+-- ---- reading by bytes
+
+pub record ReaderFits (r : LineReader) : Type 0 where
+  pub pending-small : r .pending < 8
+  pub held-small : r .held < 2 ^ r .pending
+  pub before-small : r .before < 32
+
+abbrev pub pendingBits : LineReader → List Bool
+pendingBits r = lowBits (r .pending) (r .held)
+
+-- what the line still gives before the place `end`, with the pending bits in front
+abbrev pub leftAt : List Bool → ℕ → LineReader → Unstuffed
+leftAt bits end r = inFront (pendingBits r) (unstuff (onesBefore (r .before)) (8 * r .index) (slice (8 * r .index) end bits))
+
+-- the bits of a byte that was made whole
+abbrev pub wholeBits : Bool → ℕ → List Bool
+wholeBits true byte = lowBits 8 byte
+wholeBits false byte = []
+
+-- the bits d of a byte of the line, taken behind the pending ones
+pub record ReadsOn (r : LineReader) (byte : ℕ) (d : ReceivedByte) (x : ByteRead) : Type 0 where
+  pub bits-are : pendingBits r ++ lowBits (8 - d .zeros) (d .bits) ≡ wholeBits (x .whole) (x .byte) ++ pendingBits (x .next)
+  pub index-is : x .next .index ≡ r .index + 1
+  pub before-is : x .next .before ≡ byte / 2 ^ 3
+  pub fits : ReaderFits (x .next)
+
+-- the bits of the rest, or the place of the missing zero
+abbrev pub ofRest : Rest → Unstuffed
+ofRest (last.Bits held pending) = clean (lowBits pending held)
+ofRest (last.Missing place) = missing (place .0)
+
+abbrev pub RestFits : Rest → Type 0
+RestFits (last.Bits held pending) = pending < 15
+RestFits (last.Missing place) = Unit
+
+-- a walk with the check: how many bits there are, and the register after their whole bytes
+pub data Judgement : Type 0 where
+  sound : ℕ → ℕ → Judgement
+  unsound : ℕ → Judgement
+
+abbrev pub ofJudged : Judged → Judgement
+ofJudged (pass.Sound count register) = sound count register
+ofJudged (pass.Missing place) = unsound (place .0)
+
+abbrev pub RegisterBelow : ℕ → Judged → Type 0
+RegisterBelow n (pass.Sound count register) = register < n
+RegisterBelow n (pass.Missing place) = Unit
+
+-- with `count` bits passed before
+unfoldable pub judged : List ℕ → ℕ → ℕ → Unstuffed → Judgement
+judged table register count (clean s) = sound (count + length s) (enterAllByTable table register (packInto (length s / 8) s))
+judged table register count (missing p) = unsound p
 
 -- the end of a walk: the place of the closing flag and the number of bits of content and check; or number and value of a refusal
 pub data Walked : Type 0 where
@@ -60,6 +136,19 @@ ofWalk (walk.Refused r) = unframed (readNumber r) (readValue r)
 unfoldable pub zerosAnswer : ℕ → ℕ → Unstuffed → Walked
 zerosAnswer end k (clean s) = found end (k + length s)
 zerosAnswer end k (missing p) = unframed 33 p
+
+-- the walk's end, where a sound line has its check right exactly where the register is the remainder
+abbrev pub walkEnd : ℕ → ℕ → Judged → WalkEnd
+walkEnd end remainder (pass.Sound count register) = walk.Found (record { end = end; count = count; right = eqb register remainder })
+walkEnd end remainder (pass.Missing place) = walk.Refused (reading.ZeroMissing place)
+
+-- whether the check is right, of whole bytes of content and check: question 37
+abbrev pub CheckTold : Parameters → List Bool → Bool → Type 0
+CheckTold m s right = length s % 8 ≡ 0 → width m ≤ length s → right ≡ same (rule.checkIn m s) (checkBits m (rule.contentOf m s))
+
+abbrev pub ChecksRight : Parameters → List ℕ → WalkEnd → Type 0
+ChecksRight m lent (walk.Found f) = CheckTold m (dataBetween (bitsOf lent) (f .end)) (f .right)
+ChecksRight m lent (walk.Refused r) = Unit
 
 -- questions 32 to 36
 abbrev pub framedAnswer : ℕ → rule.Framed → Walked

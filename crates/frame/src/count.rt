@@ -1,55 +1,44 @@
-// Counting the bits of a frame before it is written.
-use crate::BitWriter;
+// Counting the bytes of a frame before it is written.
+use crate::ZeroCount;
+use crate::zeros::stuff_byte;
 ghost use mathlib.Core.Path.{_≡_};
-ghost use mathlib.Core.List.{[], _∷_};
+ghost use mathlib.Core.List.{_++_};
 ghost use Prim.Native.Nat.{_+_, _*_, _^_, _<_, _≤_};
 ghost use lib.ListN.{length};
-ghost use Rattle.bits.specs.Bytes.{lowBits, bitsOf};
-ghost use Rattle.frame.specs.Steps.{writerAfter};
+ghost use Rattle.bits.specs.Bytes.{bitsOf, bytesFor};
+ghost use Rattle.frame.specs.Frame.{enclose};
+ghost use Rattle.frame.specs.Steps.{Counts};
 
-// The writer after one bit, with the zero that a fifth one brings.
-pub fn count_bit(w: BitWriter, bit: bool) -> BitWriter
-    requires { ⌜ (w .run ≤ 4) × (w .at + 2 < 2 ^ 64) ⌝ }
-    ensures { λ r. ⌜ r ≡ writerAfter w (bit ∷ []) ⌝ }
+// The zeros that go into bytes, added to those before.
+fn count_zeros(start: ZeroCount, bytes: &[u8]) -> ZeroCount
+    requires { ⌜ (start .before < 16) × (start .zeros + 2 * length (now bytes) < 2 ^ 64) ⌝ }
+    ensures { λ r. ⌜ Counts start (bitsOf (now (bytes .entry))) r ⌝ }
 {
-    let at = w.at;
-    let run = w.run;
-    if bit {
-        if run == 4 {
-            return BitWriter { at: at + 2, run: 0 };
-        }
-        return BitWriter {
-            at: at + 1,
-            run: run + 1,
-        };
-    }
-    BitWriter { at: at + 1, run: 0 }
-}
-
-fn count_byte(start: BitWriter, byte: u8) -> BitWriter
-    requires { ⌜ (start .run ≤ 4) × (start .at + 18 < 2 ^ 64) ⌝ }
-    ensures { λ r. ⌜ r ≡ writerAfter start (lowBits 8 byte) ⌝ }
-{
-    let mut w = start;
-    let mut rest = byte;
-    let mut left: usize = 8;
-    while 0 < left {
-        w = count_bit(w, rest % 2 == 1);
-        rest = rest / 2;
-        left = left - 1;
-    }
-    w
-}
-
-pub fn count_bytes(start: BitWriter, bytes: &[u8]) -> BitWriter
-    requires { ⌜ (start .run ≤ 4) × (start .at + 16 * length (now bytes) + 2 < 2 ^ 64) ⌝ }
-    ensures { λ r. ⌜ r ≡ writerAfter start (bitsOf (now (bytes .entry))) ⌝ }
-{
-    let mut w = start;
+    let mut zeros = start.zeros;
+    let mut before = start.before;
     let mut i = 0;
     while i < bytes.len() {
-        w = count_byte(w, bytes[i]);
+        let sent = stuff_byte(before, bytes[i]);
+        zeros += sent.zeros as usize;
+        before = sent.before;
         i += 1;
     }
-    w
+    ZeroCount { zeros, before }
+}
+
+// The bytes that content and check take between their flags, with the flags.
+pub fn frame_bytes(content: &[u8], check: &[u8]) -> usize
+    requires { ⌜ (length (now content) ≤ 65536) × (length (now check) ≤ 4) ⌝ }
+    ensures { λ r. ⌜ r ≡ bytesFor (length (enclose (bitsOf (now (content .entry)) ++ bitsOf (now (check .entry))))) ⌝ }
+{
+    let body = count_zeros(
+        ZeroCount {
+            zeros: 0,
+            before: 0,
+        },
+        content,
+    );
+    let tail = count_zeros(body, check);
+    let bits = 8 * (content.len() + check.len()) + tail.zeros + 16;
+    (bits + 7) >> 3
 }

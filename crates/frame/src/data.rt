@@ -1,19 +1,18 @@
 // Taking the bits of content and check from between the flags: the inserted zeros are passed over.
-use crate::BitReader;
-use crate::DataBit;
-use crate::DataByte;
-use registers::enter_byte16;
-use registers::enter_byte32;
+use crate::BitPlace;
+use crate::ByteRead;
+use crate::LineReader;
+use crate::ReceivedByte;
+use crate::Rest;
+use crate::put::low_byte;
+use crate::zeros::unstuff_byte;
 ghost use mathlib.Core.Path.{_≡_};
 ghost use mathlib.Core.Bool.{false};
-ghost use mathlib.Core.List.{_∷_};
-ghost use Prim.Native.Nat.{_+_, _*_, _^_, _<_, _≤_};
-ghost use lib.ListN.{length, take, drop, getD};
+ghost use Prim.Native.Nat.{_+_, _-_, _*_, _^_, _<_, _≤_};
+ghost use lib.ListN.{length, getD};
 ghost use lib.Seq.{sets};
-ghost use Rattle.bits.specs.Bytes.{bitsOf, digit, value, packInto};
-ghost use Rattle.registers.specs.Register.{enterAllByTable};
-ghost use Rattle.frame.specs.Stuffing.{onesAfter};
-ghost use Rattle.frame.specs.Steps.{left, behindFlag};
+ghost use Rattle.bits.specs.Bytes.{bitsOf, digit, packInto};
+ghost use Rattle.frame.specs.Steps.{dataBetween, ReaderFits, ReadsOn, leftAt, ofRest, RestFits};
 
 // The bit at a place.
 pub fn bit_at(lent: &[u8], at: usize) -> bool
@@ -31,103 +30,95 @@ pub fn with_bit(byte: u8, k: usize, bit: bool) -> u8
     if bit { byte | (1u8 << k) } else { byte }
 }
 
-// The ones in a row after a bit.
-pub fn ones_after(run: usize, bit: bool) -> usize
-    requires { ⌜ run ≤ 5 ⌝ }
-    ensures { λ r. ⌜ r ≡ onesAfter run bit ⌝ }
+// The bits that a byte of the line gives, behind those that are pending.
+pub fn read_bits(r: LineReader, byte: u8, got: ReceivedByte) -> ByteRead
+    requires { ⌜ ReaderFits r × (got .zeros ≤ 2) × (got .bits < 2 ^ (8 - got .zeros)) × (r .index + 1 < 2 ^ 64) ⌝ }
+    ensures { λ x. ⌜ ReadsOn r byte got x ⌝ }
 {
-    if bit { run + 1 } else { 0 }
-}
-
-// The next bit; behind five ones in a row a zero is passed over.
-fn next_bit(lent: &[u8], end: usize, reader: BitReader) -> DataBit
-    requires { ⌜ (end ≤ 8 * length (now lent)) × (reader .run ≤ 5) × (0 < length (left (bitsOf (now lent)) end reader)) ⌝ }
-    ensures { λ r. ⌜ (left (bitsOf (now (lent .entry))) end reader ≡ r .bit ∷ left (bitsOf (now (lent .entry))) end (r .next)) × (r .next .run ≤ 5) ⌝ }
-{
-    let at = reader.at;
-    let run = reader.run;
-    if run == 5 {
-        let bit = bit_at(lent, at + 1);
-        let ones = ones_after(0, bit);
-        return DataBit {
-            bit,
-            next: BitReader {
-                at: at + 2,
-                run: ones,
+    let index = r.index + 1;
+    let before = (byte as u32) >> 3;
+    let held = r.held | (got.bits << r.pending);
+    if got.zeros <= r.pending {
+        return ByteRead {
+            byte: low_byte(held),
+            whole: true,
+            next: LineReader {
+                index,
+                before,
+                held: held >> 8,
+                pending: r.pending - got.zeros,
             },
         };
     }
-    let bit = bit_at(lent, at);
-    let ones = ones_after(run, bit);
-    DataBit {
-        bit,
-        next: BitReader {
-            at: at + 1,
-            run: ones,
+    ByteRead {
+        byte: 0,
+        whole: false,
+        next: LineReader {
+            index,
+            before,
+            held,
+            pending: r.pending + 8 - got.zeros,
         },
     }
 }
 
-fn next_byte(lent: &[u8], end: usize, start: BitReader) -> DataByte
-    requires { ⌜ (end ≤ 8 * length (now lent)) × (start .run ≤ 5) × (8 ≤ length (left (bitsOf (now lent)) end start)) ⌝ }
-    ensures { λ r. ⌜ (r .byte ≡ value (take 8 (left (bitsOf (now (lent .entry))) end start))) × (left (bitsOf (now (lent .entry))) end (r .next) ≡ drop 8 (left (bitsOf (now (lent .entry))) end start)) × (r .next .run ≤ 5) ⌝ }
-{
-    let mut reader = start;
-    let mut byte: u8 = 0;
-    let mut k = 0;
-    while k < 8 {
-        let data = next_bit(lent, end, reader);
-        byte = with_bit(byte, k, data.bit);
-        reader = data.next;
-        k += 1;
-    }
-    DataByte { byte, next: reader }
-}
-
-// The register after the first n bytes.
-pub fn register16(table: &[u16; 256], start: u16, lent: &[u8], end: usize, n: usize) -> u16
-    requires { ⌜ (end ≤ 8 * length (now lent)) × (8 * n ≤ length (left (bitsOf (now lent)) end behindFlag)) ⌝ }
-    ensures { λ r. ⌜ r ≡ enterAllByTable (now (table .entry)) start (packInto n (left (bitsOf (now (lent .entry))) end behindFlag)) ⌝ }
-{
-    let mut reader = BitReader { at: 8, run: 0 };
-    let mut register = start;
-    let mut rest = n;
-    while 0 < rest {
-        let data = next_byte(lent, end, reader);
-        register = enter_byte16(table, register, data.byte);
-        reader = data.next;
-        rest = rest - 1;
-    }
-    register
-}
-
-pub fn register32(table: &[u32; 256], start: u32, lent: &[u8], end: usize, n: usize) -> u32
-    requires { ⌜ (end ≤ 8 * length (now lent)) × (8 * n ≤ length (left (bitsOf (now lent)) end behindFlag)) ⌝ }
-    ensures { λ r. ⌜ r ≡ enterAllByTable (now (table .entry)) start (packInto n (left (bitsOf (now (lent .entry))) end behindFlag)) ⌝ }
-{
-    let mut reader = BitReader { at: 8, run: 0 };
-    let mut register = start;
-    let mut rest = n;
-    while 0 < rest {
-        let data = next_byte(lent, end, reader);
-        register = enter_byte32(table, register, data.byte);
-        reader = data.next;
-        rest = rest - 1;
-    }
-    register
-}
-
-// The first n bytes, at the start of the output.
+// The first n bytes, at the start of the output. The check stands behind them.
 pub fn hand_out(lent: &[u8], end: usize, n: usize, out: &mut [u8])
-    requires { ⌜ (end ≤ 8 * length (now lent)) × (8 * n ≤ length (left (bitsOf (now lent)) end behindFlag)) × (n ≤ length (now out)) ⌝ }
-    ensures { λ _. ⌜ now (out .exit) ≡ sets (now (out .entry)) 0 (packInto n (left (bitsOf (now (lent .entry))) end behindFlag)) ⌝ }
+    requires { ⌜ (end ≤ 8 * length (now lent)) × (8 * n + 16 ≤ length (dataBetween (bitsOf (now lent)) end)) × (n ≤ length (now out)) ⌝ }
+    ensures { λ _. ⌜ now (out .exit) ≡ sets (now (out .entry)) 0 (packInto n (dataBetween (bitsOf (now (lent .entry))) end)) ⌝ }
 {
-    let mut reader = BitReader { at: 8, run: 0 };
+    let mut r = LineReader {
+        index: 1,
+        before: 0,
+        held: 0,
+        pending: 0,
+    };
     let mut i: usize = 0;
     while i < n {
-        let data = next_byte(lent, end, reader);
-        out[i] = data.byte;
-        reader = data.next;
-        i += 1;
+        let index = r.index;
+        let byte = lent[index];
+        let got = unstuff_byte(r.before, byte);
+        let read = read_bits(r, byte, got);
+        if read.whole {
+            out[i] = read.byte;
+            i += 1;
+            r = read.next;
+        } else {
+            r = read.next;
+        }
     }
+}
+
+// The bits of the line behind its whole bytes, before the place `end`.
+pub fn read_rest(lent: &[u8], end: usize, r: LineReader) -> Rest
+    requires { ⌜ ReaderFits r × (8 * r .index ≤ end) × (end < 8 * r .index + 8) × (end ≤ 8 * length (now lent)) ⌝ }
+    ensures { λ x. ⌜ ofRest x ≡ leftAt (bitsOf (now (lent .entry))) end r × RestFits x ⌝ }
+{
+    let mut at = 8 * r.index;
+    let mut before = r.before;
+    let mut held = r.held;
+    let mut pending = r.pending;
+    while at < end {
+        let bit = bit_at(lent, at);
+        if before == 31 {
+            if bit {
+                return Rest::Missing(BitPlace(at));
+            }
+            before = 15;
+            at += 1;
+        } else if bit {
+            held = held | (1u32 << pending);
+            before = (before >> 1) | 16;
+            pending += 1;
+            at += 1;
+        } else {
+            before = before >> 1;
+            pending += 1;
+            at += 1;
+        }
+    }
+    if before == 31 {
+        return Rest::Missing(BitPlace(end));
+    }
+    Rest::Bits(held, pending)
 }

@@ -1,62 +1,62 @@
-// Putting bits into bytes, the low bit first. What stands above a bit in its byte is cleared, so that spare bits are zero.
+// Putting bits into bytes, the low bit first. A full byte is stored; the bits of the byte that is not full are held.
 use crate::BitWriter;
-use crate::count::count_bit;
 use crate::limit::FLAG;
+use crate::zeros::stuff_byte;
 ghost use mathlib.Core.Path.{_≡_};
-ghost use mathlib.Core.List.{[], _∷_};
-ghost use Prim.Native.Nat.{_+_, _*_, _^_, _<_, _≤_};
+ghost use Prim.Native.Nat.{_+_, _*_, _%_, _^_, _<_, _≤_};
 ghost use lib.ListN.{length};
 ghost use Rattle.bits.specs.Bytes.{lowBits, bitsOf};
 ghost use Rattle.frame.specs.Stuffing.{stuff};
 ghost use Rattle.frame.specs.Frame.{flag};
-ghost use Rattle.frame.specs.Steps.{writerAfter, putAt, putBits, putStuffed};
+ghost use Rattle.frame.specs.Bytewise.{runBefore};
+ghost use Rattle.frame.specs.Steps.{Fits, position, stored, Puts};
 
-// Puts a bit at the place `place` of the byte `byte`.
-fn put_bit(out: &mut [u8], byte: usize, place: usize, bit: bool)
-    requires { ⌜ (byte < length (now out)) × (place < 8) ⌝ }
-    ensures { λ _. ⌜ now (out .exit) ≡ putAt (now (out .entry)) byte place bit ⌝ }
+pub fn low_byte(x: u32) -> u8
+    ensures { λ r. ⌜ r ≡ x % 256 ⌝ }
 {
-    let weight = 1u8 << place;
-    let low = out[byte] & (weight - 1);
-    if bit {
-        out[byte] = low | weight;
-    } else {
-        out[byte] = low;
-    }
+    (x & 255) as u8
 }
 
-// Puts one bit of content or check, and the zero after a fifth one.
-fn put_stuffed(out: &mut [u8], w: BitWriter, bit: bool) -> BitWriter
-    requires { ⌜ (w .run ≤ 4) × (w .at + 2 < 2 ^ 64) × (w .at + length (stuff (w .run) (bit ∷ [])) ≤ 8 * length (now out)) ⌝ }
-    ensures { λ r. ⌜ (r ≡ writerAfter w (bit ∷ [])) × (now (out .exit) ≡ putStuffed (now (out .entry)) w (bit ∷ [])) ⌝ }
+// Puts a byte of content or check, with the zeros that go into it.
+fn put_byte(out: &mut [u8], w: BitWriter, byte: u8) -> BitWriter
+    requires { ⌜ Fits w × (position w + length (stuff (runBefore (w .before)) (lowBits 8 byte)) ≤ 8 * length (now out)) ⌝ }
+    ensures { λ r. ⌜ Puts (now (out .entry)) w (lowBits 8 byte) (now (out .exit)) r ⌝ }
 {
-    let at = w.at;
-    put_bit(&mut *out, at / 8, at % 8, bit);
-    let next = count_bit(w, bit);
-    if next.at == at + 2 {
-        put_bit(&mut *out, (at + 1) / 8, (at + 1) % 8, false);
+    let index = w.index;
+    let place = w.place;
+    let sent = stuff_byte(w.before, byte);
+    let zeros = sent.zeros;
+    let before = sent.before;
+    let held = w.held | (sent.bits << place);
+    out[index] = low_byte(held);
+    if zeros == 0 {
+        return BitWriter {
+            index: index + 1,
+            place,
+            held: held >> 8,
+            before,
+        };
     }
-    next
-}
-
-fn put_byte(out: &mut [u8], start: BitWriter, byte: u8) -> BitWriter
-    requires { ⌜ (start .run ≤ 4) × (start .at + 18 < 2 ^ 64) × (start .at + length (stuff (start .run) (lowBits 8 byte)) ≤ 8 * length (now out)) ⌝ }
-    ensures { λ r. ⌜ (r ≡ writerAfter start (lowBits 8 byte)) × (now (out .exit) ≡ putStuffed (now (out .entry)) start (lowBits 8 byte)) ⌝ }
-{
-    let mut w = start;
-    let mut rest = byte;
-    let mut left: usize = 8;
-    while 0 < left {
-        w = put_stuffed(&mut *out, w, rest % 2 == 1);
-        rest = rest / 2;
-        left = left - 1;
+    if place + zeros < 8 {
+        return BitWriter {
+            index: index + 1,
+            place: place + zeros,
+            held: held >> 8,
+            before,
+        };
     }
-    w
+    out[index + 1] = low_byte(held >> 8);
+    BitWriter {
+        index: index + 2,
+        place: place + zeros - 8,
+        held: held >> 16,
+        before,
+    }
 }
 
 pub fn put_bytes(out: &mut [u8], start: BitWriter, bytes: &[u8]) -> BitWriter
-    requires { ⌜ (start .run ≤ 4) × (start .at + 16 * length (now bytes) + 2 < 2 ^ 64) × (start .at + length (stuff (start .run) (bitsOf (now bytes))) ≤ 8 * length (now out)) ⌝ }
-    ensures { λ r. ⌜ (r ≡ writerAfter start (bitsOf (now (bytes .entry)))) × (now (out .exit) ≡ putStuffed (now (out .entry)) start (bitsOf (now (bytes .entry)))) ⌝ }
+    requires { ⌜ Fits start × (position start + length (stuff (runBefore (start .before)) (bitsOf (now bytes))) ≤ 8 * length (now out)) ⌝ }
+    ensures { λ r. ⌜ Puts (now (out .entry)) start (bitsOf (now (bytes .entry))) (now (out .exit)) r ⌝ }
 {
     let mut w = start;
     let mut i = 0;
@@ -67,18 +67,18 @@ pub fn put_bytes(out: &mut [u8], start: BitWriter, bytes: &[u8]) -> BitWriter
     w
 }
 
-// A flag goes in as it is.
-pub fn put_flag(out: &mut [u8], at: usize)
-    requires { ⌜ (at + 8 < 2 ^ 64) × (at + 8 ≤ 8 * length (now out)) ⌝ }
-    ensures { λ _. ⌜ now (out .exit) ≡ putBits (now (out .entry)) at flag ⌝ }
+// The closing flag goes in as it is. The bits of the frame.
+pub fn put_flag(out: &mut [u8], w: BitWriter) -> usize
+    requires { ⌜ Fits w × (position w + 8 ≤ 8 * length (now out)) × (position w + 8 < 2 ^ 64) ⌝ }
+    ensures { λ r. ⌜ (r ≡ position w + 8) × (now (out .exit) ≡ stored (now (out .entry)) w flag) ⌝ }
 {
-    let mut place = at;
-    let mut rest = FLAG;
-    let mut left: usize = 8;
-    while 0 < left {
-        put_bit(&mut *out, place / 8, place % 8, rest % 2 == 1);
-        place = place + 1;
-        rest = rest / 2;
-        left = left - 1;
+    let index = w.index;
+    let place = w.place;
+    let held = w.held | ((FLAG as u32) << place);
+    out[index] = low_byte(held);
+    if place == 0 {
+        return 8 * index + 8;
     }
+    out[index + 1] = low_byte(held >> 8);
+    8 * index + place as usize + 8
 }

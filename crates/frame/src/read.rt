@@ -3,7 +3,6 @@ use crate::FrameMethod;
 use crate::FrameRead;
 use crate::ReadRefusal;
 use crate::WalkEnd;
-use crate::check::check_right;
 use crate::data::hand_out;
 use crate::limit::check_width;
 use crate::walk::find_framing;
@@ -33,7 +32,7 @@ pub fn read_frame(method: FrameMethod, bits: usize, lent: &[u8], out: &mut [u8])
         return unframed(walked);
     };
     let end = f.end;
-    if !check_right(method, lent, end, f.count / 8) {
+    if !f.right {
         return FrameRead::Refused(ReadRefusal::WrongCheck);
     }
     let needed = (f.count - check_width(method)) / 8;

@@ -1,15 +1,18 @@
-// The walk over the bits of a frame: questions 31 to 36.
-use crate::BitPlace;
+// The walk over the bits of a frame: questions 31 to 37.
 use crate::FrameMethod;
 use crate::Framing;
+use crate::Judged;
 use crate::ReadRefusal;
 use crate::WalkEnd;
 use crate::data::bit_at;
-use crate::data::ones_after;
 use crate::data::with_bit;
+use crate::judge::judge16;
+use crate::judge::judge32;
 use crate::limit::FLAG;
 use crate::limit::check_width;
 use crate::limit::limit;
+use cyclic::Cyclic5;
+use cyclic::Cyclic6;
 ghost use mathlib.Core.Path.{_≡_};
 ghost use mathlib.Core.Bool.{cond};
 ghost use Prim.Native.Nat.{_+_, _-_, _*_, _^_, _<_, _≤_};
@@ -21,7 +24,12 @@ ghost use Rattle.bits.specs.Bytes.{bitsOf};
 ghost use Rattle.frame.specs.Stuffing.{unstuff};
 ghost use Rattle.frame.specs.Frame.{parametersOf, flag};
 ghost use Rattle.frame.specs.Read.{askZeros, framed};
-ghost use Rattle.frame.specs.Steps.{ofWalk, zerosAnswer, framedAnswer, unframed};
+ghost use Rattle.frame.specs.Steps.{ofWalk, walkEnd, zerosAnswer, ChecksRight, framedAnswer, unframed};
+
+// The remainders of appendices 1 and 2, the highest power in bit 0.
+const REMAINDER16: u32 = 0xf0b8;
+
+const REMAINDER32: u32 = 0xdebb20e3;
 
 // Whether the eight bits from a place on are a flag.
 fn is_flag(lent: &[u8], at: usize) -> bool
@@ -37,39 +45,43 @@ fn is_flag(lent: &[u8], at: usize) -> bool
     byte == FLAG
 }
 
-// Question 33, of the bits up to the closing flag at `end`.
-fn walk(lent: &[u8], end: usize) -> WalkEnd
-    requires { ⌜ (8 ≤ end) × (end ≤ 8 * length (now lent)) ⌝ }
-    ensures { λ r. ⌜ ofWalk r ≡ zerosAnswer end 0 (unstuff 0 8 (slice 8 end (bitsOf (now (lent .entry))))) ⌝ }
+// The end of a walk over a line that was judged.
+fn walk_end(j: Judged, end: usize, remainder: u32) -> WalkEnd
+    ensures { λ r. ⌜ r ≡ walkEnd end remainder j ⌝ }
 {
-    let mut at: usize = 8;
-    let mut run: usize = 0;
-    let mut count: usize = 0;
-    while at < end {
-        let bit = bit_at(lent, at);
-        if run == 5 {
-            if bit {
-                return WalkEnd::Refused(ReadRefusal::ZeroMissing(BitPlace(at)));
-            }
-            run = 0;
-        } else {
-            run = ones_after(run, bit);
-            count += 1;
+    match j {
+        Judged::Sound(count, register) => WalkEnd::Found(Framing {
+            end,
+            count,
+            right: register == remainder,
+        }),
+        Judged::Missing(place) => WalkEnd::Refused(ReadRefusal::ZeroMissing(place)),
+    }
+}
+
+// Questions 33 and 37, of the bits up to the closing flag at `end`. Content and check together leave one fixed remainder (003 par. 2.2.3).
+fn walk(m: FrameMethod, lent: &[u8], end: usize) -> WalkEnd
+    requires { ⌜ (8 ≤ end) × (end ≤ 8 * length (now lent)) × (end + 8 < 2 ^ 64) ⌝ }
+    ensures { λ r. ⌜ (ofWalk r ≡ zerosAnswer end 0 (unstuff 0 8 (slice 8 end (bitsOf (now (lent .entry)))))) × ChecksRight (parametersOf m) (now (lent .entry)) r ⌝ }
+{
+    match m {
+        FrameMethod::Cyclic16 => {
+            let table = Cyclic5::table();
+            walk_end(judge16(&table, Cyclic5::START, lent, end), end, REMAINDER16)
         }
-        at += 1;
+        FrameMethod::Cyclic32 => {
+            let table = Cyclic6::table();
+            walk_end(judge32(&table, Cyclic6::START, lent, end), end, REMAINDER32)
+        }
     }
-    if run == 5 {
-        return WalkEnd::Refused(ReadRefusal::ZeroMissing(BitPlace(end)));
-    }
-    WalkEnd::Found(Framing { end, count })
 }
 
 // Questions 33 to 36.
 fn walk_closed(m: FrameMethod, lent: &[u8], end: usize) -> WalkEnd
-    requires { ⌜ (8 ≤ end) × (end ≤ 8 * length (now lent)) ⌝ }
-    ensures { λ r. ⌜ ofWalk r ≡ framedAnswer end (askZeros (parametersOf m) (unstuff 0 8 (slice 8 end (bitsOf (now (lent .entry)))))) ⌝ }
+    requires { ⌜ (8 ≤ end) × (end ≤ 8 * length (now lent)) × (end + 8 < 2 ^ 64) ⌝ }
+    ensures { λ r. ⌜ (ofWalk r ≡ framedAnswer end (askZeros (parametersOf m) (unstuff 0 8 (slice 8 end (bitsOf (now (lent .entry))))))) × ChecksRight (parametersOf m) (now (lent .entry)) r ⌝ }
 {
-    let walked = walk(lent, end);
+    let walked = walk(m, lent, end);
     let WalkEnd::Found(f) = walked else {
         return walked;
     };
@@ -89,7 +101,7 @@ fn walk_closed(m: FrameMethod, lent: &[u8], end: usize) -> WalkEnd
 
 // Questions 31 to 36.
 pub fn find_framing(m: FrameMethod, told: usize, lent: &[u8]) -> WalkEnd
-    ensures { λ r. ⌜ ofWalk r ≡ cond (leb told (8 * length (now (lent .entry)))) (framedAnswer (told - 8) (framed (parametersOf m) (take told (bitsOf (now (lent .entry)))))) (unframed 31 0) ⌝ }
+    ensures { λ r. ⌜ (ofWalk r ≡ cond (leb told (8 * length (now (lent .entry)))) (framedAnswer (told - 8) (framed (parametersOf m) (take told (bitsOf (now (lent .entry)))))) (unframed 31 0)) × ChecksRight (parametersOf m) (now (lent .entry)) r ⌝ }
 {
     // 8 times the length may not fit.
     let bytes = told / 8 + (told % 8 + 7) / 8;

@@ -3,7 +3,8 @@ use crate::BitWriter;
 use crate::FrameMethod;
 use crate::FrameWritten;
 use crate::WriteRefusal;
-use crate::count::count_bytes;
+use crate::count::frame_bytes;
+use crate::limit::FLAG;
 use crate::limit::limit;
 use crate::put::put_bytes;
 use crate::put::put_flag;
@@ -13,47 +14,44 @@ use registers::sent16;
 use registers::sent32;
 ghost use mathlib.Core.Path.{_≡_};
 ghost use mathlib.Core.List.{_++_};
-ghost use Prim.Native.Nat.{_*_, _≤_};
+ghost use Prim.Native.Nat.{_≤_};
 ghost use lib.ListN.{length, drop};
 ghost use Rattle.bits.specs.Bytes.{bitsOf, bytesFor, pack};
 ghost use Rattle.frame.specs.Frame.{parametersOf, enclose};
 ghost use Rattle.frame.specs.Write.{askRoom, writeFrame, writeOutput};
 ghost use Rattle.frame.specs.Answers.{ofWritten, ofWriteAnswer};
 
-// How many bits content and check take between their flags, with the flags.
-fn frame_length(content: &[u8], check: &[u8]) -> usize
-    requires { ⌜ (length (now content) ≤ 65536) × (length (now check) ≤ 4) ⌝ }
-    ensures { λ r. ⌜ r ≡ length (enclose (bitsOf (now (content .entry)) ++ bitsOf (now (check .entry)))) ⌝ }
-{
-    let body = count_bytes(BitWriter { at: 8, run: 0 }, content);
-    let tail = count_bytes(body, check);
-    tail.at + 8
-}
-
-// Puts them at the start of the output.
-fn put_frame(content: &[u8], check: &[u8], out: &mut [u8])
+// Puts them at the start of the output. The bits of the frame.
+fn put_frame(content: &[u8], check: &[u8], out: &mut [u8]) -> usize
     requires { ⌜ (length (now content) ≤ 65536) × (length (now check) ≤ 4) × (bytesFor (length (enclose (bitsOf (now content) ++ bitsOf (now check)))) ≤ length (now out)) ⌝ }
-    ensures { λ _. ⌜ now (out .exit) ≡ pack (enclose (bitsOf (now (content .entry)) ++ bitsOf (now (check .entry)))) ++ drop (bytesFor (length (enclose (bitsOf (now (content .entry)) ++ bitsOf (now (check .entry)))))) (now (out .entry)) ⌝ }
+    ensures { λ r. ⌜ (r ≡ length (enclose (bitsOf (now (content .entry)) ++ bitsOf (now (check .entry))))) × (now (out .exit) ≡ pack (enclose (bitsOf (now (content .entry)) ++ bitsOf (now (check .entry)))) ++ drop (bytesFor (length (enclose (bitsOf (now (content .entry)) ++ bitsOf (now (check .entry)))))) (now (out .entry))) ⌝ }
 {
-    put_flag(&mut *out, 0);
-    let body = put_bytes(&mut *out, BitWriter { at: 8, run: 0 }, content);
+    out[0] = FLAG;
+    let open = BitWriter {
+        index: 1,
+        place: 0,
+        held: 0,
+        before: 0,
+    };
+    let body = put_bytes(&mut *out, open, content);
     let tail = put_bytes(&mut *out, body, check);
-    let end = tail.at;
-    put_flag(&mut *out, end);
+    put_flag(&mut *out, tail)
 }
 
-// Question 23, then the frame.
+// Question 23, then the frame. Five bits take six at most, so where the output has room for that no zero is counted.
 fn write_checked(content: &[u8], check: &[u8], out: &mut [u8]) -> FrameWritten
     requires { ⌜ (length (now content) ≤ 65536) × (length (now check) ≤ 4) ⌝ }
     ensures { λ r. ⌜ (ofWritten r ≡ ofWriteAnswer (askRoom (enclose (bitsOf (now (content .entry)) ++ bitsOf (now (check .entry)))) (length (now (out .entry))))) × (now (out .exit) ≡ writeOutput (askRoom (enclose (bitsOf (now (content .entry)) ++ bitsOf (now (check .entry)))) (length (now (out .entry)))) (now (out .entry))) ⌝ }
 {
-    let bits = frame_length(content, check);
-    let needed = (bits + 7) / 8;
+    let most = content.len() + (content.len() >> 2) + 16;
+    if most <= out.len() {
+        return FrameWritten::Written(put_frame(content, check, &mut *out));
+    }
+    let needed = frame_bytes(content, check);
     if needed > out.len() {
         return FrameWritten::Refused(WriteRefusal::OutputShort(needed));
     }
-    put_frame(content, check, &mut *out);
-    FrameWritten::Written(bits)
+    FrameWritten::Written(put_frame(content, check, &mut *out))
 }
 
 // Document 01, part 4: writes one frame.

@@ -1,26 +1,38 @@
--- `hand_out` meets its contract. The loop's invariant: storing the bytes that the reader has still to give makes the whole. The
--- measure is how many they are. Assumes nothing.
+-- `hand_out` meets its contract. The loop's invariant: storing the bytes that the reader has still to give makes the whole. The measure is what is left of the line. Assumes nothing.
 use Prim.Native.Nat.{_-_}
 use native.Mathlib.Omega.{arith}
 use denote.Ref.{now}
-use Rattle.bits.specs.Bytes.{bitsOf}
-use Rattle.frame.proofs.Turns.{HandingOut, hand-begin, hand-turn, hand-end}
+use lib.ListN.{length}
+use Rattle.frame.proofs.Turns.{HandingOut, hand-begin, hand-ahead, hand-turn, hand-part, hand-end}
 use Rattle.frame.proofs.data.hand_out.Statement.{statement}
 use Rattle.frame.proofs.data.hand_out.Tie as tie
 
 abbrev Inv-loop : tie.InvT-loop
-Inv-loop lent end n out₀ reader₀ i₀ out reader i = HandingOut (bitsOf lent) end n out₀ out reader i
+Inv-loop lent end n out₀ r₀ i₀ out r i = HandingOut lent end n out₀ out r i
 
 abbrev μ-loop : tie.MeasureT-loop
-μ-loop lent end n out₀ reader₀ i₀ out reader i = n - i
+μ-loop lent end n out₀ r₀ i₀ out r i = length lent - r .index
 
 loop-holds : tie.Need-loop-holds Inv-loop μ-loop
 loop-holds c =
     let s = c .before .before in
-    hand-begin (bitsOf (now (s .args .lent))) (s .args .end) (s .args .n) (now (s .args .out)) (s .pre .1)
+    hand-begin (now (s .args .lent)) (s .args .end) (s .args .n) (now (s .args .out)) (s .pre .1)
 
-next-byte-requires : tie.Need-next-byte-requires Inv-loop μ-loop
-next-byte-requires c κs = omega arith
+shared-slice-read-byte : tie.Need-shared-slice-read-byte Inv-loop μ-loop
+shared-slice-read-byte c =
+    let s = c .before .before .before .before .before in
+    let h = hand-ahead (s .pre .0) (c .before .before .loop .inv) (c .before .loop-test .taken) in
+    omega (arith, s .pre .0)
+
+unstuff-byte-requires : tie.Need-unstuff-byte-requires Inv-loop μ-loop
+unstuff-byte-requires c κs = c .before .before .loop .inv .fits .before-small
+
+read-bits-requires : tie.Need-read-bits-requires Inv-loop μ-loop
+read-bits-requires c κs =
+    let s = c .before .before .before .before .before .before in
+    let d = c .unstuff-byte .ensures in
+    let h = hand-ahead (s .pre .0) (c .before .before .before .loop .inv) (c .before .before .loop-test .taken) in
+    (c .before .before .before .loop .inv .fits, d .few, d .bits-small, omega (arith, s .pre .0))
 
 slice-write-out : tie.Need-slice-write-out Inv-loop μ-loop
 slice-write-out c = omega arith
@@ -29,12 +41,26 @@ add-i : tie.Need-add-i Inv-loop μ-loop
 add-i c = omega arith
 
 loop-less : tie.Need-loop-less Inv-loop μ-loop
-loop-less c = omega arith
+loop-less c =
+    let s = c .before .before .before .before .before .before .before .before .before in
+    let h = hand-ahead (s .pre .0) (c .before .before .before .before .before .before .loop .inv) (c .before .before .before .before .before .loop-test .taken) in
+    omega (arith, s .pre .0, c .before .before .read-bits .ensures .index-is)
 
 loop-again : tie.Need-loop-again Inv-loop μ-loop
 loop-again c =
-    let got = c .before .next-byte .ensures in
-    hand-turn (c .before .before .before .loop .inv) (c .before .before .loop-test .taken) (got .0) (got .1) (got .2)
+    let s = c .before .before .before .before .before .before .before .before .before in
+    hand-turn (s .pre .0) (c .before .before .before .before .before .before .loop .inv) (c .before .before .before .before .before .loop-test .taken) (c .before .before .before .unstuff-byte .ensures) (c .before .before .read-bits .ensures) (c .before .if1 .taken) (omega arith)
+
+loop-less-2 : tie.Need-loop-less-2 Inv-loop μ-loop
+loop-less-2 c =
+    let s = c .before .before .before .before .before .before .before .before .before in
+    let h = hand-ahead (s .pre .0) (c .before .before .before .before .before .before .loop .inv) (c .before .before .before .before .before .loop-test .taken) in
+    omega (arith, s .pre .0, c .before .before .read-bits .ensures .index-is)
+
+loop-again-2 : tie.Need-loop-again-2 Inv-loop μ-loop
+loop-again-2 c =
+    let s = c .before .before .before .before .before .before .before .before .before in
+    hand-part (s .pre .0) (c .before .before .before .before .before .before .loop .inv) (c .before .before .before .before .before .loop-test .taken) (c .before .before .before .unstuff-byte .ensures) (c .before .before .read-bits .ensures) (c .before .if1 .left)
 
 same-length : tie.Need-same-length Inv-loop μ-loop
 same-length c = c .before .loop .inv .size
@@ -49,10 +75,14 @@ hand-out-spec =
     Inv-loop
     μ-loop
     loop-holds
-    next-byte-requires
+    shared-slice-read-byte
+    unstuff-byte-requires
+    read-bits-requires
     slice-write-out
     add-i
     loop-less
     loop-again
+    loop-less-2
+    loop-again-2
     same-length
     returns)

@@ -1,63 +1,114 @@
--- `put_byte` meets its contract: a turn puts the low bit of what is left. Assumes nothing.
-use Prim.Native.Nat.{_-_, _/_, _%_}
+-- `put_byte` meets its contract: a byte stored, and a second one where the zeros fill it. Assumes nothing.
 use native.Mathlib.Omega.{arith}
-use mathlib.Core.List.{[], _∷_}
-use lib.Dec.{eqb}
-use Rattle.bits.specs.Bytes.{lowBits}
-use Rattle.bits.proofs.Bytes.{length-lowBits}
-use Rattle.frame.proofs.Writers.{Putting, put-begin, room, put-turn, put-whole, lowBits-on, lowBits-none}
+use denote.Ref.{now}
+use lib.ListN.{length-set}
+use Rattle.frame.proofs.Writers.{sent-length, word-or, put-once, put-plain, put-twice}
+use borrow.Author.Needs.{needs}
 use Rattle.frame.proofs.put.put_byte.Statement.{statement}
 use Rattle.frame.proofs.put.put_byte.Tie as tie
 
-abbrev Inv-loop : tie.InvT-loop
-Inv-loop out₀ byte w₀ rest₀ left₀ out w rest left = Putting out₀ w₀ (lowBits 8 byte) out w (lowBits left rest)
+stuff-byte-requires : tie.Need-stuff-byte-requires
+stuff-byte-requires c κs = search needs
 
-abbrev μ-loop : tie.MeasureT-loop
-μ-loop out₀ byte w₀ rest₀ left₀ out w rest left = left
+shl-held : tie.Need-shl-held
+shl-held c = search needs
 
-loop-holds : tie.Need-loop-holds Inv-loop μ-loop
-loop-holds c = put-begin (c .before .pre .0)
+low-byte-requires : tie.Need-low-byte-requires
+low-byte-requires c κs = search needs
 
-put-stuffed-requires : tie.Need-put-stuffed-requires Inv-loop μ-loop
-put-stuffed-requires c κs =
-    let b = c .before .before .loop in
-    let s = c .before .before .before .before in (
-      b .inv .counted .run-le,
-      omega (arith, b .inv .counted .place, length-lowBits 8 (s .args .byte)),
-      room (eqb (b .rest % 2) 1 ∷ []) (lowBits (b .left - 1) (b .rest / 2)) (b .inv) (lowBits-on (b .left) (b .rest) (c .before .loop-test .taken)) (s .pre .2),
-    )
+slice-write-out : tie.Need-slice-write-out
+slice-write-out c =
+    let s = c .before .before .before .before .before in
+    let k = c .before .before .before .stuff-byte .ensures in
+    omega (arith, s .pre .1, sent-length k)
 
-sub-left : tie.Need-sub-left Inv-loop μ-loop
-sub-left c = omega arith
+add-t14 : tie.Need-add-t14
+add-t14 c = search needs
 
-loop-less : tie.Need-loop-less Inv-loop μ-loop
-loop-less c = omega arith
+same-length : tie.Need-same-length
+same-length c = search needs
 
-loop-again : tie.Need-loop-again Inv-loop μ-loop
-loop-again c =
-    let p = c .before .before .put-stuffed in
-    let t = c .before .before .before .before in
-    let b = t .before .loop in
-    put-turn (eqb (b .rest % 2) 1 ∷ []) (b .inv) (lowBits-on (b .left) (b .rest) (t .loop-test .taken)) (p .ensures .0) (p .ensures .1) (p .kept .0)
-
-same-length : tie.Need-same-length Inv-loop μ-loop
-same-length c = c .before .loop .inv .same
-
-returns : tie.Need-returns Inv-loop μ-loop
+returns : tie.Need-returns
 returns c =
-    let b = c .before .loop in
-    put-whole (b .inv) (lowBits-none (b .left) (b .rest) (c .loop-test .left))
+    let s = c .before .before .before .before .before .before in
+    let k = c .before .before .before .before .stuff-byte .ensures in
+    let o = now (s .args .out) in
+    let w = word-or o (s .args .w) (s .pre .0) (s .args .byte) k in
+    put-plain o (s .args .w) (s .pre .0) (s .args .byte) k w (c .before .low-byte .ensures) (c .if1 .taken)
+
+add-if2 : tie.Need-add-if2
+add-if2 c = search needs
+
+add-t16 : tie.Need-add-t16
+add-t16 c = search needs
+
+add-t17 : tie.Need-add-t17
+add-t17 c = search needs
+
+same-length-2 : tie.Need-same-length-2
+same-length-2 c = search needs
+
+returns-2 : tie.Need-returns-2
+returns-2 c =
+    let s = c .before .before .before .before .before .before .before in
+    let k = c .before .before .before .before .before .stuff-byte .ensures in
+    let o = now (s .args .out) in
+    let w = word-or o (s .args .w) (s .pre .0) (s .args .byte) k in
+    put-once o (s .args .w) (s .pre .0) (s .args .byte) k w (c .before .before .low-byte .ensures) (c .if2 .taken)
+
+low-byte-requires-2 : tie.Need-low-byte-requires-2
+low-byte-requires-2 c κs = search needs
+
+add-out : tie.Need-add-out
+add-out c = search needs
+
+slice-write-out-2 : tie.Need-slice-write-out-2
+slice-write-out-2 c =
+    let s = c .before .before .before .before .before .before .before .before in
+    let k = c .before .before .before .before .before .before .stuff-byte .ensures in
+    omega (arith, s .pre .1, sent-length k, c .before .if2 .left, length-set (now (s .args .out)) (s .args .w .index) (c .before .before .before .low-byte .result))
+
+add-t19 : tie.Need-add-t19
+add-t19 c = search needs
+
+add-t10 : tie.Need-add-t10
+add-t10 c = search needs
+
+sub-t21 : tie.Need-sub-t21
+sub-t21 c = search needs
+
+same-length-3 : tie.Need-same-length-3
+same-length-3 c = search needs
+
+returns-3 : tie.Need-returns-3
+returns-3 c =
+    let s = c .before .before .before .before .before .before .before .before in
+    let k = c .before .before .before .before .before .before .stuff-byte .ensures in
+    let o = now (s .args .out) in
+    let w = word-or o (s .args .w) (s .pre .0) (s .args .byte) k in
+    put-twice o (s .args .w) (s .pre .0) (s .args .byte) k w (c .before .before .before .low-byte .ensures) (c .before .if2 .left) (c .low-byte2 .ensures)
 
 pub put-byte-spec : {M : Type 1} → statement M
 put-byte-spec =
     tie.close
     (tie.spec
-    Inv-loop
-    μ-loop
-    loop-holds
-    put-stuffed-requires
-    sub-left
-    loop-less
-    loop-again
+    stuff-byte-requires
+    shl-held
+    low-byte-requires
+    slice-write-out
+    add-t14
     same-length
-    returns)
+    returns
+    add-if2
+    add-t16
+    add-t17
+    same-length-2
+    returns-2
+    low-byte-requires-2
+    add-out
+    slice-write-out-2
+    add-t19
+    add-t10
+    sub-t21
+    same-length-3
+    returns-3)

@@ -1,9 +1,8 @@
--- `put_bytes` meets its contract: a turn puts the bits of the next byte. Assumes nothing.
+-- `put_bytes` meets its contract: a turn puts the next byte. Assumes nothing.
 use Prim.Native.Nat.{_+_, _-_}
 use native.Mathlib.Omega.{arith}
-use lib.ListN.{length, drop, getD, length-drop}
+use lib.ListN.{length, drop, getD}
 use Rattle.bits.specs.Bytes.{lowBits, bitsOf}
-use Rattle.bits.proofs.Bytes.{length-bitsOf}
 use Rattle.frame.proofs.Writers.{Putting, put-begin, room, put-turn, put-whole, bitsOf-on, bitsOf-none}
 use Rattle.frame.proofs.put.put_bytes.Statement.{statement}
 use Rattle.frame.proofs.put.put_bytes.Tie as tie
@@ -22,12 +21,11 @@ shared-slice-read-put-byte c = omega arith
 
 put-byte-requires : tie.Need-put-byte-requires Inv-loop μ-loop
 put-byte-requires c κs =
-    let b = c .before .before .before .loop in
+    let v = c .before .before .before .loop in
     let s = c .before .before .before .before .before .before in
     let bytes = s .args .bytes .now in (
-      b .inv .counted .run-le,
-      omega (arith, s .pre .1, b .inv .counted .place, length-bitsOf bytes, length-bitsOf (drop (b .i) bytes), length-drop (b .i) bytes),
-      room (lowBits 8 (getD bytes (b .i) 0)) (bitsOf (drop (b .i + 1) bytes)) (b .inv) (bitsOf-on bytes (b .i) (c .before .before .loop-test .taken)) (s .pre .2),
+      v .inv .fits,
+      room (lowBits 8 (getD bytes (v .i) 0)) (bitsOf (drop (v .i + 1) bytes)) (v .inv) (bitsOf-on bytes (v .i) (c .before .before .loop-test .taken)) (s .pre .1),
     )
 
 add-i : tie.Need-add-i Inv-loop μ-loop
@@ -40,17 +38,17 @@ loop-again : tie.Need-loop-again Inv-loop μ-loop
 loop-again c =
     let p = c .before .before .put-byte in
     let t = c .before .before .before .before .before in
-    let b = t .before .loop in
+    let v = t .before .loop in
     let bytes = t .before .before .before .before .args .bytes .now in
-    put-turn (lowBits 8 (getD bytes (b .i) 0)) (b .inv) (bitsOf-on bytes (b .i) (t .loop-test .taken)) (p .ensures .0) (p .ensures .1) (p .kept .0)
+    put-turn (lowBits 8 (getD bytes (v .i) 0)) (v .inv) (bitsOf-on bytes (v .i) (t .loop-test .taken)) (p .ensures) (p .kept .0)
 
 same-length : tie.Need-same-length Inv-loop μ-loop
 same-length c = c .before .loop .inv .same
 
 returns : tie.Need-returns Inv-loop μ-loop
 returns c =
-    let b = c .before .loop in
-    put-whole (b .inv) (bitsOf-none (c .before .before .before .before .args .bytes .now) (b .i) (c .loop-test .left))
+    let v = c .before .loop in
+    put-whole (v .inv) (bitsOf-none (c .before .before .before .before .args .bytes .now) (v .i) (c .loop-test .left))
 
 pub put-bytes-spec : {M : Type 1} → statement M
 put-bytes-spec =

@@ -1,71 +1,88 @@
--- `put_flag` meets its contract: what is left to put of the flag gives the whole. Assumes nothing.
-use mathlib.Core.Path.{_≡_, refl, sym, ap, _∙_}
-use Prim.Native.Nat.{_+_, _-_, _/_}
+-- `put_flag` meets its contract: the flag behind what the writer holds, in one byte or in two. Assumes nothing.
 use native.Mathlib.Omega.{arith}
-use lib.ListN.{length}
-use Rattle.bits.specs.Bytes.{lowBits}
-use Rattle.frame.specs.Frame.{flag}
-use Rattle.frame.specs.Steps.{putBits}
-use Rattle.frame.proofs.Writers.{lowBits-on, lowBits-none}
+use denote.Ref.{now}
+use lib.ListN.{length-set}
+use Rattle.frame.proofs.Written.{flag-in-one, flag-in-two}
+use borrow.Author.Needs.{needs}
 use Rattle.frame.proofs.put.put_flag.Statement.{statement}
 use Rattle.frame.proofs.put.put_flag.Tie as tie
 
-abbrev Inv-loop : tie.InvT-loop
-Inv-loop out₀ at place₀ rest₀ left₀ out place rest left =
-    (putBits out place (lowBits left rest) ≡ putBits out₀ at flag) × (place + left ≡ at + 8) × (length out ≡ length out₀)
+cast-held : tie.Need-cast-held
+cast-held c = search needs
 
-abbrev μ-loop : tie.MeasureT-loop
-μ-loop out₀ at place₀ rest₀ left₀ out place rest left = left
+shl-held : tie.Need-shl-held
+shl-held c = search needs
 
-loop-holds : tie.Need-loop-holds Inv-loop μ-loop
-unfolding flag
-loop-holds c = (refl, omega arith, refl)
+low-byte-requires : tie.Need-low-byte-requires
+low-byte-requires c κs = search needs
 
-put-bit-requires : tie.Need-put-bit-requires Inv-loop μ-loop
-put-bit-requires c κs = omega arith
+slice-write-out : tie.Need-slice-write-out
+slice-write-out c = search needs
 
-add-place : tie.Need-add-place Inv-loop μ-loop
-add-place c = omega arith
+mul-result : tie.Need-mul-result
+mul-result c = search needs
 
-sub-left : tie.Need-sub-left Inv-loop μ-loop
-sub-left c = omega arith
+add-result : tie.Need-add-result
+add-result c = search needs
 
-loop-less : tie.Need-loop-less Inv-loop μ-loop
-loop-less c = omega arith
+same-length : tie.Need-same-length
+same-length c = search needs
 
-loop-again : tie.Need-loop-again Inv-loop μ-loop
-unfolding putBits
-loop-again c =
-    let p = c .before .before .put-bit in
-    let t = c .before .before .before .before in
-    let b = t .before .loop in (
-      ap (λ l. putBits l (b .place + 1) (lowBits (b .left - 1) (b .rest / 2))) (p .ensures)
-          ∙ ap (putBits (b .out) (b .place)) (sym (lowBits-on (b .left) (b .rest) (t .loop-test .taken)))
-          ∙ b .inv .0,
-      omega arith,
-      p .kept .0 ∙ b .inv .2,
-    )
-
-same-length : tie.Need-same-length Inv-loop μ-loop
-same-length c = c .before .loop .inv .2
-
-returns : tie.Need-returns Inv-loop μ-loop
-unfolding putBits
+returns : tie.Need-returns
 returns c =
-    let b = c .before .loop in
-    ap (putBits (b .out) (b .place)) (sym (lowBits-none (b .left) (b .rest) (c .loop-test .left))) ∙ b .inv .0
+    let s = c .before .before .before .before in
+    (omega (arith, c .if1 .taken), flag-in-one (now (s .args .out)) (s .args .w) (s .pre .0) (c .before .low-byte .ensures) (c .if1 .taken))
+
+low-byte-requires-2 : tie.Need-low-byte-requires-2
+low-byte-requires-2 c κs = search needs
+
+add-out : tie.Need-add-out
+add-out c = search needs
+
+slice-write-out-2 : tie.Need-slice-write-out-2
+slice-write-out-2 c =
+    let s = c .before .before .before .before .before in
+    omega (arith, s .pre .1, c .before .if1 .left, length-set (now (s .args .out)) (s .args .w .index) (c .before .before .low-byte .result))
+
+mul-result-2 : tie.Need-mul-result-2
+mul-result-2 c = search needs
+
+cast-result : tie.Need-cast-result
+cast-result c = search needs
+
+add-result-2 : tie.Need-add-result-2
+add-result-2 c = search needs
+
+add-result-3 : tie.Need-add-result-3
+add-result-3 c = search needs
+
+same-length-2 : tie.Need-same-length-2
+same-length-2 c = search needs
+
+returns-2 : tie.Need-returns-2
+returns-2 c =
+    let s = c .before .before .before .before .before in
+    let n = c .before .if1 .left in
+    (omega arith, flag-in-two (now (s .args .out)) (s .args .w) (s .pre .0) (c .before .before .low-byte .ensures) (c .low-byte2 .ensures) n)
 
 pub put-flag-spec : {M : Type 1} → statement M
 put-flag-spec =
     tie.close
     (tie.spec
-    Inv-loop
-    μ-loop
-    loop-holds
-    put-bit-requires
-    add-place
-    sub-left
-    loop-less
-    loop-again
+    cast-held
+    shl-held
+    low-byte-requires
+    slice-write-out
+    mul-result
+    add-result
     same-length
-    returns)
+    returns
+    low-byte-requires-2
+    add-out
+    slice-write-out-2
+    mul-result-2
+    cast-result
+    add-result-2
+    add-result-3
+    same-length-2
+    returns-2)

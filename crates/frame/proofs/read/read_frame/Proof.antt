@@ -1,9 +1,11 @@
 -- `read_frame` meets its contract: a framing, then questions 37 and 38, then the content handed out. Assumes nothing.
-use mathlib.Core.Path.{ap, _∙_}
+use mathlib.Core.Path.{ap, _∙_, subst}
 use native.Mathlib.Omega.{arith}
 use lib.ListN.{length}
 use borrow.Author.Tests.{not-true, not-false}
-use Rattle.frame.specs.Steps.{ofWalk, ofUnframed}
+use Rattle.frame.specs.Frame.{parametersOf}
+use Rattle.frame.specs.Steps.{ChecksRight, ofWalk, ofUnframed}
+use Rattle.frame.proofs.Questions.{sizes}
 use Rattle.frame.proofs.ReadFrame.{framing-found, no-framing, is-refused, wrong-check, content-bits, output-short, is-taken}
 use borrow.Author.Needs.{needs}
 use Rattle.frame.proofs.read.read_frame.Statement.{statement}
@@ -25,54 +27,64 @@ returns : tie.Need-returns
 returns c =
     let a = c .before .before .before .before .before .before .args in
     let q = c .before .enum-told .given .1 in
-    let e = is-refused (a .out .now) (no-framing (a .method) (a .lent .now) (a .bits) (c .before .before .before .find-framing .ensures) (length (a .out .now)) q) in
+    let e = is-refused (a .out .now) (no-framing (a .method) (a .lent .now) (a .bits) (c .before .before .before .find-framing .ensures .0) (length (a .out .now)) q) in
     (c .unframed .ensures ∙ ap (λ w. ofUnframed (ofWalk w)) q ∙ e .0, e .1)
-
-check-right-requires : tie.Need-check-right-requires
-check-right-requires c κs =
-    let a = c .before .before .before .before .before .before .before .args in
-    let f = framing-found (a .method) (a .lent .now) (a .bits) (c .before .before .before .before .find-framing .ensures) (c .before .before .walked .given .1) in
-    (f .end-within, omega (arith, f .counted, f .whole), omega (arith, f .counted, f .whole, f .has-content))
 
 returns-2 : tie.Need-returns-2
 returns-2 c =
-    let a = c .before .before .before .before .before .before .before .before .before .args in
-    let f = framing-found (a .method) (a .lent .now) (a .bits) (c .before .before .before .before .before .before .find-framing .ensures) (c .before .before .before .before .walked .given .1) in
-    is-refused (a .out .now) (wrong-check f (a .out .now) (c .before .check-right .ensures) (not-true _ (c .if1 .taken)))
+    let a = c .before .before .before .before .before .before .before .before .args in
+    let found = c .before .before .before .before .before .find-framing .ensures in
+    let told = c .before .before .before .walked .given .1 in
+    let f = framing-found (a .method) (a .lent .now) (a .bits) (found .0) told in
+    let asked = subst (ChecksRight (parametersOf (a .method)) (a .lent .now)) told (found .1) (f .whole) (omega (arith, f .has-content)) in
+    is-refused (a .out .now) (wrong-check f (a .out .now) asked (not-true _ (c .if1 .taken)))
 
 check-width-requires : tie.Need-check-width-requires
 check-width-requires c κs = search needs
 
 sub-needed : tie.Need-sub-needed
 sub-needed c =
-    let a = c .before .before .before .before .before .before .before .before .before .before .before .args in
-    let f = framing-found (a .method) (a .lent .now) (a .bits) (c .before .before .before .before .before .before .before .before .find-framing .ensures) (c .before .before .before .before .before .before .walked .given .1) in
+    let a = c .before .before .before .before .before .before .before .before .before .before .args in
+    let found = c .before .before .before .before .before .before .before .find-framing .ensures in
+    let told = c .before .before .before .before .before .walked .given .1 in
+    let f = framing-found (a .method) (a .lent .now) (a .bits) (found .0) told in
+    let asked = subst (ChecksRight (parametersOf (a .method)) (a .lent .now)) told (found .1) (f .whole) (omega (arith, f .has-content)) in
     omega (arith, f .counted, f .has-content)
 
 returns-3 : tie.Need-returns-3
 returns-3 c =
-    let a = c .before .before .before .before .before .before .before .before .before .before .before .before .args in
-    let f = framing-found (a .method) (a .lent .now) (a .bits) (c .before .before .before .before .before .before .before .before .before .find-framing .ensures) (c .before .before .before .before .before .before .before .walked .given .1) in
+    let a = c .before .before .before .before .before .before .before .before .before .before .before .args in
+    let found = c .before .before .before .before .before .before .before .before .find-framing .ensures in
+    let told = c .before .before .before .before .before .before .walked .given .1 in
+    let f = framing-found (a .method) (a .lent .now) (a .bits) (found .0) told in
+    let asked = subst (ChecksRight (parametersOf (a .method)) (a .lent .now)) told (found .1) (f .whole) (omega (arith, f .has-content)) in
     let right = not-false _ (c .before .before .before .if1 .left) in
-    is-refused (a .out .now) (output-short f (a .out .now) (c .before .before .before .before .check-right .ensures) right (c .before .before .check-width .ensures) (c .if2 .taken))
+    is-refused (a .out .now) (output-short f (a .out .now) asked right (c .before .before .check-width .ensures) (c .if2 .taken))
 
 hand-out-requires : tie.Need-hand-out-requires
 hand-out-requires c κs =
-    let a = c .before .before .before .before .before .before .before .before .before .before .before .before .before .args in
-    let f = framing-found (a .method) (a .lent .now) (a .bits) (c .before .before .before .before .before .before .before .before .before .before .find-framing .ensures) (c .before .before .before .before .before .before .before .before .walked .given .1) in
+    let a = c .before .before .before .before .before .before .before .before .before .before .before .before .args in
+    let found = c .before .before .before .before .before .before .before .before .before .find-framing .ensures in
+    let told = c .before .before .before .before .before .before .before .walked .given .1 in
+    let f = framing-found (a .method) (a .lent .now) (a .bits) (found .0) told in
+    let asked = subst (ChecksRight (parametersOf (a .method)) (a .lent .now)) told (found .1) (f .whole) (omega (arith, f .has-content)) in
     let right = not-false _ (c .before .before .before .before .if1 .left) in
-    let n = content-bits f (a .out .now) (c .before .before .before .before .before .check-right .ensures) right (c .before .before .before .check-width .ensures) in
-    (f .end-within, omega arith, omega arith)
+    let n = content-bits f (a .out .now) asked right (c .before .before .before .check-width .ensures) in
+    let w = sizes (a .method) .width-large in
+    (f .end-within, omega (arith, f .has-content), omega arith)
 
 same-length : tie.Need-same-length
 same-length c = search needs
 
 returns-4 : tie.Need-returns-4
 returns-4 c =
-    let a = c .before .before .before .before .before .before .before .before .before .before .before .before .before .before .before .before .args in
-    let f = framing-found (a .method) (a .lent .now) (a .bits) (c .before .before .before .before .before .before .before .before .before .before .before .before .before .find-framing .ensures) (c .before .before .before .before .before .before .before .before .before .before .before .walked .given .1) in
+    let a = c .before .before .before .before .before .before .before .before .before .before .before .before .before .before .before .args in
+    let found = c .before .before .before .before .before .before .before .before .before .before .before .before .find-framing .ensures in
+    let told = c .before .before .before .before .before .before .before .before .before .before .walked .given .1 in
+    let f = framing-found (a .method) (a .lent .now) (a .bits) (found .0) told in
+    let asked = subst (ChecksRight (parametersOf (a .method)) (a .lent .now)) told (found .1) (f .whole) (omega (arith, f .has-content)) in
     let right = not-false _ (c .before .before .before .before .before .before .before .if1 .left) in
-    is-taken f (a .out .now) (c .before .before .before .before .before .before .before .before .check-right .ensures) right (c .before .before .before .before .before .before .check-width .ensures) (c .before .before .before .before .if2 .left) (c .before .before .hand-out .ensures)
+    is-taken f (a .out .now) asked right (c .before .before .before .before .before .before .check-width .ensures) (c .before .before .before .before .if2 .left) (c .before .before .hand-out .ensures)
 
 pub read-frame-spec : {M : Type 1} → statement M
 read-frame-spec =
@@ -83,7 +95,6 @@ read-frame-spec =
     enum-told
     unframed-requires
     returns
-    check-right-requires
     returns-2
     check-width-requires
     sub-needed

@@ -18,12 +18,12 @@ add-bytes-2 c = search needs
 returns : tie.Need-returns
 returns c =
     let a = c .before .before .args in
-    lent-short (parametersOf (a .m)) (now (a .lent)) (a .told) (omega arith)
+    (lent-short (parametersOf (a .m)) (now (a .lent)) (a .told) (omega arith), tt)
 
 returns-2 : tie.Need-returns-2
 returns-2 c =
     let a = c .before .before .before .args in
-    no-two-flags (parametersOf (a .m)) (now (a .lent)) (a .told) (omega arith) (c .if2 .taken)
+    (no-two-flags (parametersOf (a .m)) (now (a .lent)) (a .told) (omega arith) (c .if2 .taken), tt)
 
 sub-end : tie.Need-sub-end
 sub-end c = search needs
@@ -33,30 +33,36 @@ is-flag-requires c κs = search needs
 
 returns-3 : tie.Need-returns-3
 returns-3 c =
-    let a = c .before .before .before .before .before .args in
-    no-opening-flag (parametersOf (a .m)) (now (a .lent)) (a .told) (omega arith) (c .before .before .if2 .left)
-    (sym (c .before .is-flag .ensures) ∙ not-true _ (c .if3 .taken))
+    let a = c .before .before .before .before .before .args in (
+      no-opening-flag (parametersOf (a .m)) (now (a .lent)) (a .told) (omega arith) (c .before .before .if2 .left)
+          (sym (c .before .is-flag .ensures) ∙ not-true _ (c .if3 .taken)),
+      tt,
+    )
 
 is-flag-requires-2 : tie.Need-is-flag-requires-2
 is-flag-requires-2 c κs = search needs
 
 returns-4 : tie.Need-returns-4
 returns-4 c =
-    let a = c .before .before .before .before .before .before .before .args in
-    no-closing-flag (parametersOf (a .m)) (now (a .lent)) (a .told) (omega arith) (c .before .before .before .before .if2 .left)
-    (sym (c .before .before .before .is-flag .ensures) ∙ not-false _ (c .before .before .if3 .left))
-    (sym (c .before .is-flag2 .ensures) ∙ not-true _ (c .if4 .taken))
+    let a = c .before .before .before .before .before .before .before .args in (
+      no-closing-flag (parametersOf (a .m)) (now (a .lent)) (a .told) (omega arith) (c .before .before .before .before .if2 .left)
+          (sym (c .before .before .before .is-flag .ensures) ∙ not-false _ (c .before .before .if3 .left))
+          (sym (c .before .is-flag2 .ensures) ∙ not-true _ (c .if4 .taken)),
+      tt,
+    )
 
 walk-closed-requires : tie.Need-walk-closed-requires
 walk-closed-requires c κs = search needs
 
 returns-5 : tie.Need-returns-5
 returns-5 c =
-    let a = c .before .before .before .before .before .before .before .before .args in
-    c .walk-closed .ensures
-    ∙ both-flags (parametersOf (a .m)) (now (a .lent)) (a .told) (omega arith) (c .before .before .before .before .before .if2 .left)
-    (sym (c .before .before .before .before .is-flag .ensures) ∙ not-false _ (c .before .before .before .if3 .left))
-    (sym (c .before .before .is-flag2 .ensures) ∙ not-false _ (c .before .if4 .left))
+    let a = c .before .before .before .before .before .before .before .before .args in (
+      c .walk-closed .ensures .0
+          ∙ both-flags (parametersOf (a .m)) (now (a .lent)) (a .told) (omega arith) (c .before .before .before .before .before .if2 .left)
+          (sym (c .before .before .before .before .is-flag .ensures) ∙ not-false _ (c .before .before .before .if3 .left))
+          (sym (c .before .before .is-flag2 .ensures) ∙ not-false _ (c .before .if4 .left)),
+      c .walk-closed .ensures .1,
+    )
 
 pub find-framing-spec : {M : Type 1} → statement M
 find-framing-spec =

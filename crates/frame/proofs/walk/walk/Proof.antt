@@ -1,82 +1,79 @@
--- `walk` meets its contract. The loop's invariant: what the bits from here on give is the answer of all of them. The measure is
--- how many are left. Assumes nothing.
-use mathlib.Core.Path.{_≡_, _∙_}
-use mathlib.Core.Logic.{⊎-elim}
-use Prim.Native.Nat.{_+_, _-_}
-use native.Mathlib.Omega.{arith}
+-- `walk` meets its contract: the register after content and check holds the receiver's remainder exactly where the check is the rule's. Assumes nothing.
+use mathlib.Core.Path.{sym, ap, _∙_, subst}
 use denote.Ref.{now}
+use lib.Dec.{lit<}
+use lib.Seq.{slice}
 use Rattle.bits.specs.Bytes.{bitsOf}
-use Rattle.frame.proofs.Turns.{Walking, walk-begin, walk-data, walk-zero, walk-one, walk-end-missing, walk-end}
+use Rattle.cyclic.specs.Check.{method5, method6}
+use Rattle.cyclic.proofs.Methods.{width-5, width-6, receivers}
+use Rattle.frame.specs.Stuffing.{unstuff}
+use Rattle.frame.specs.Steps.{ofWalk, ChecksRight}
+use Rattle.frame.proofs.Received.{start-5, start-6, remainder-16, remainder-32, walk-zeros, walk-checks}
+use borrow.Author.Needs.{needs}
 use Rattle.frame.proofs.walk.walk.Statement.{statement}
 use Rattle.frame.proofs.walk.walk.Tie as tie
 
-abbrev Inv-loop : tie.InvT-loop
-Inv-loop lent end at₀ run₀ count₀ at run count = Walking (bitsOf lent) end at run count
+enum-told : tie.Need-enum-told
+enum-told c = search needs
 
-abbrev μ-loop : tie.MeasureT-loop
-μ-loop lent end at₀ run₀ count₀ at run count = end - at
+table-requires : tie.Need-table-requires
+table-requires c κs = search needs
 
-loop-holds : tie.Need-loop-holds Inv-loop μ-loop
-loop-holds c = walk-begin (bitsOf (now (c .before .args .lent))) (c .before .args .end) (c .before .pre .0)
+judge16-requires : tie.Need-judge16-requires
+judge16-requires c κs = search needs
 
-bit-at-requires : tie.Need-bit-at-requires Inv-loop μ-loop
-bit-at-requires c κs = omega arith
+walk-end-requires : tie.Need-walk-end-requires
+walk-end-requires c κs = search needs
 
-returns : tie.Need-returns Inv-loop μ-loop
+enum-told-2 : tie.Need-enum-told-2
+enum-told-2 c = search needs
+
+table-requires-2 : tie.Need-table-requires-2
+table-requires-2 c κs = search needs
+
+judge32-requires : tie.Need-judge32-requires
+judge32-requires c κs = search needs
+
+walk-end-requires-2 : tie.Need-walk-end-requires-2
+walk-end-requires-2 c κs = search needs
+
+returns : tie.Need-returns
 returns c =
-    let s = c .before .before .before .before .before .before in
-    walk-one (now (s .args .lent)) (s .args .end) (s .pre .1) (c .before .before .before .before .loop .inv) (c .before .before .before .loop-test .taken) (c .before .if1 .taken) (c .before .before .bit-at .ensures) (c .if2 .taken)
+    let a = c .before .before .before .before .before .before .before .args in
+    let told = c .before .before .before .before .enum-told .given .1 in
+    let e = c .walk-end .ensures in
+    let k = c .before .judge16 .ensures in
+    let x = c .before .judge16 .result in
+    rw told (
+      ap ofWalk e ∙ walk-zeros (a .end) 0xf0b8 _ _ (unstuff 0 8 (slice 8 (a .end) (bitsOf (now (a .lent))))) x (k .0),
+      subst (ChecksRight method5 (now (a .lent))) (sym e)
+          (walk-checks 8 method5 width-5 (receivers .method-5) 0xf0b8 (lit< tt) remainder-16 start-5 (lit< tt) (c .before .before .before .table .ensures) (now (a .lent)) (a .end) x (k .0) (k .1)),
+    )
 
-ones-after-requires : tie.Need-ones-after-requires Inv-loop μ-loop
-ones-after-requires c κs = omega arith
-
-add-count : tie.Need-add-count Inv-loop μ-loop
-add-count c = omega arith
-
-add-at : tie.Need-add-at Inv-loop μ-loop
-add-at c = omega arith
-
-loop-less : tie.Need-loop-less Inv-loop μ-loop
-loop-less c = omega arith
-
-loop-again : tie.Need-loop-again Inv-loop μ-loop
-loop-again c =
-    let s = c .before .before .before .before .before in
-    let b = c .before .before .before .loop in
-    let more = c .before .before .loop-test .taken in
-    ⊎-elim
-    (λ w.
-    let e : c .if1 .run ≡ 0 = w .2 in
-    let f : c .if1 .count ≡ b .count = w .3 in
-    rw (e, f) (walk-zero (now (s .args .lent)) (s .args .end) (s .pre .1) (b .inv) more (w .0 .taken) (c .before .bit-at .ensures) (w .1 .left)))
-    (λ w.
-    let f : c .if1 .count ≡ b .count + 1 = w .3 in
-    rw f (walk-data (now (s .args .lent)) (s .args .end) (s .pre .1) (b .inv) more (w .0 .left) (c .before .bit-at .ensures) (w .2 ∙ w .1 .ensures)))
-    (c .if1 .came)
-
-returns-2 : tie.Need-returns-2 Inv-loop μ-loop
+returns-2 : tie.Need-returns-2
 returns-2 c =
-    let s = c .before .before .before .before in
-    walk-end-missing (now (s .args .lent)) (s .args .end) (s .pre .1) (c .before .before .loop .inv) (c .before .loop-test .left) (c .if3 .taken)
-
-returns-3 : tie.Need-returns-3 Inv-loop μ-loop
-returns-3 c =
-    let s = c .before .before .before .before in
-    walk-end (now (s .args .lent)) (s .args .end) (s .pre .1) (c .before .before .loop .inv) (c .before .loop-test .left) (c .if3 .left)
+    let a = c .before .before .before .before .before .before .before .args in
+    let told = c .before .before .before .before .enum-told2 .given .1 in
+    let e = c .walk-end2 .ensures in
+    let k = c .before .judge32 .ensures in
+    let x = c .before .judge32 .result in
+    rw told (
+      ap ofWalk e ∙ walk-zeros (a .end) 0xdebb20e3 _ _ (unstuff 0 8 (slice 8 (a .end) (bitsOf (now (a .lent))))) x (k .0),
+      subst (ChecksRight method6 (now (a .lent))) (sym e)
+          (walk-checks 24 method6 width-6 (receivers .method-6) 0xdebb20e3 (lit< tt) remainder-32 start-6 (lit< tt) (c .before .before .before .table3 .ensures) (now (a .lent)) (a .end) x (k .0) (k .1)),
+    )
 
 pub walk-spec : {M : Type 1} → statement M
 walk-spec =
     tie.close
     (tie.spec
-    Inv-loop
-    μ-loop
-    loop-holds
-    bit-at-requires
+    enum-told
+    table-requires
+    judge16-requires
+    walk-end-requires
+    enum-told-2
+    table-requires-2
+    judge32-requires
+    walk-end-requires-2
     returns
-    ones-after-requires
-    add-count
-    add-at
-    loop-less
-    loop-again
-    returns-2
-    returns-3)
+    returns-2)
