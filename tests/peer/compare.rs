@@ -5,14 +5,15 @@
 //! ```
 //!
 //! `--seed` starts the generated cases elsewhere, `--cases` sets the rounds of
-//! generated cases. The program prints what it tried by call and by answer
-//! number, and ends with 1 on the first difference or where a number of
+//! generated cases. The program prints what it tried by stage, by call and by
+//! answer number, and ends with 1 on the first difference or where a number of
 //! document 01 was never met.
 
 #[allow(dead_code)]
 #[path = "../../bindings/rust/corridor.rs"]
 mod corridor;
 mod expected;
+mod forms;
 mod frames;
 mod generated;
 mod judge;
@@ -43,11 +44,22 @@ fn main() -> ExitCode {
     let mut judge = Judge::new();
     let mut random = Random::of_seed(seed);
     println!("seed {seed}, {cases} generated rounds");
-    stage("rows and published values", || rows::run(&mut judge));
-    stage("limits", || limits::run(&mut judge, &mut random));
-    stage("everything small", || small::run(&mut judge));
-    stage("generated", || {
-        generated::run(&mut judge, &mut random, cases)
+    let tried = &mut judge;
+    stage("rows and published values", tried, rows::run);
+    stage("limits", tried, |judge| limits::run(judge, &mut random));
+    stage("everything small", tried, small::run);
+    stage("checks at every length", tried, |judge| {
+        forms::checks::run(judge, &mut random)
+    });
+    stage("blocks at every place", tried, |judge| {
+        forms::blocks::run(judge, &mut random);
+        forms::fill::run(judge, &mut random);
+    });
+    stage("frames at every bit", tried, |judge| {
+        forms::frames::run(judge, &mut random)
+    });
+    stage("generated", tried, |judge| {
+        generated::run(judge, &mut random, cases)
     });
     judge.tally.print();
     let missing = judge.tally.missing();
@@ -59,10 +71,14 @@ fn main() -> ExitCode {
     ExitCode::SUCCESS
 }
 
-fn stage(name: &str, run: impl FnOnce()) {
+/// Runs a stage and tells how many calls it compared, checks included.
+fn stage(name: &str, judge: &mut Judge, run: impl FnOnce(&mut Judge)) {
     let start = Instant::now();
-    run();
-    println!("{name}: {:.1} s", start.elapsed().as_secs_f64());
+    let calls = |judge: &Judge| judge.tally.total() + judge.tally.checks;
+    let before = calls(judge);
+    run(judge);
+    let (made, seconds) = (calls(judge) - before, start.elapsed().as_secs_f64());
+    println!("{name}: {made} calls, {seconds:.1} s");
 }
 
 /// Seed and rounds; nothing where the arguments are not understood.

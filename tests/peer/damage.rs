@@ -46,6 +46,7 @@ fn main() -> ExitCode {
     substitution::run();
     burst::run();
     syndromes::run();
+    pairs::shorter();
     if arguments.all {
         pairs::all(arguments.threads);
     } else {

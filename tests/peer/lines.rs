@@ -22,7 +22,7 @@ pub fn link(random: &mut Random) -> Link {
 }
 
 /// A byte for header or plain text that is not reserved.
-fn character(random: &mut Random, link: Link) -> u8 {
+pub fn character(random: &mut Random, link: Link) -> u8 {
     loop {
         let character = match random.below(4) {
             0 => random.of(&[0x00, 0x04, 0x0F, 0x11, 0x15, 0x18, 0x1E, 0x20, 0x7F]),
@@ -36,7 +36,7 @@ fn character(random: &mut Random, link: Link) -> u8 {
 }
 
 /// A byte for clear text: often a sign.
-fn clear_byte(random: &mut Random) -> u8 {
+pub fn clear_byte(random: &mut Random) -> u8 {
     match random.below(4) {
         0 => DLE,
         1 => random.of(&RESERVED),
@@ -132,14 +132,19 @@ fn pieces(parts: &Parts) -> Vec<Piece> {
 
 /// The sound line of parts that can be written, with fill signs.
 pub fn line(random: &mut Random, parts: &Parts, fill: Fill) -> Vec<u8> {
+    filled(parts, |_| match fill {
+        Fill::Nowhere => 0,
+        Fill::Somewhere => random.few(4),
+        Fill::Everywhere => 1,
+    })
+}
+
+/// The sound line of parts that can be written, with so many fill signs
+/// before each piece: a sign, a byte of header or text, a doubled DLE.
+pub fn filled(parts: &Parts, mut times: impl FnMut(usize) -> usize) -> Vec<u8> {
     let mut line = Vec::new();
-    for (piece, sign) in pieces(parts) {
-        let times = match fill {
-            Fill::Nowhere => 0,
-            Fill::Somewhere => random.few(4),
-            Fill::Everywhere => 1,
-        };
-        line.extend(sign.repeat(times));
+    for (place, (piece, sign)) in pieces(parts).into_iter().enumerate() {
+        line.extend(sign.repeat(times(place)));
         line.extend(piece);
     }
     let sent = line.iter().map(|character| parts.link.sent(*character));

@@ -76,35 +76,57 @@ impl Tester<'_> {
     }
 }
 
-/// A block of plain text with 4,096 counted bytes. It keeps its framing when
-/// any two bits of its text are flipped: no byte is two bits from a sign.
+/// Text that keeps the framing of its block when any two of its bits are
+/// flipped: no byte is two bits from a sign.
+const PLAIN: [u8; 5] = [0xE4, 0xE8, 0xEC, 0xA8, 0xC4];
+
+/// The text of a full block: 4,096 bytes are counted, one of them the end sign.
+const FULL_TEXT: usize = 4_095;
+
 fn plain_block(method: u8) -> Specimen {
-    full_block(method, &[STX], &[0xE4, 0xE8, 0xEC, 0xA8, 0xC4], &[ETX])
+    block(method, FULL_TEXT, &[STX], &PLAIN, &[ETX])
 }
 
-/// A block of clear text with 4,096 counted bytes, many of them signs.
+/// A block of clear text, many of its bytes signs.
 fn clear_block(method: u8) -> Specimen {
-    full_block(
-        method,
-        &[DLE, STX],
-        &[ETX, SOH, SYN, 0x41, STX, 0xFF],
-        &[DLE, ETX],
-    )
+    let text = [ETX, SOH, SYN, 0x41, STX, 0xFF];
+    block(method, FULL_TEXT, &[DLE, STX], &text, &[DLE, ETX])
 }
 
-fn full_block(method: u8, start: &[u8], text: &[u8], end: &[u8]) -> Specimen {
-    let text: Vec<u8> = text.iter().copied().cycle().take(4_095).collect();
+fn block(method: u8, length: usize, start: &[u8], text: &[u8], end: &[u8]) -> Specimen {
+    let text: Vec<u8> = text.iter().copied().cycle().take(length).collect();
     let link = Link { method, odd: false };
     Specimen::block(link, &[start, &text, end].concat())
 }
 
-/// The longest frame of a method, with few ones in a row.
-fn full_frame(method: u8, content: usize) -> Specimen {
+/// A frame of so many content bytes, with few ones in a row.
+fn frame(method: u8, content: usize) -> Specimen {
     let bytes = [0x11, 0x42, 0x24, 0x81, 0x48]
         .into_iter()
         .cycle()
         .take(content);
     Specimen::frame(method, &bytes.collect::<Vec<u8>>())
+}
+
+/// Every pair of shorter blocks and frames, whose length lies around where
+/// checks start to fold and ends a sixteen or not: too short for any to pass.
+pub fn shorter() {
+    println!("every pair of flipped bits in shorter blocks and frames");
+    Counts::print_head();
+    for method in 3..=6 {
+        let mut counts = Counts::default();
+        for length in [47, 48, 63, 64, 65, 79, 80, 97] {
+            let specimen = match method {
+                3 | 4 => block(method, length, &[STX], &PLAIN, &[ETX]),
+                _ => frame(method, length),
+            };
+            let mut tester = Tester::new(&specimen);
+            (1..specimen.checked.len()).for_each(|distance| tester.apart(distance));
+            counts.add(tester.counts);
+        }
+        assert_eq!(counts.same_framing, 0, "method {method}");
+        counts.print(&format!("method {method}, 47 to 97 bytes"));
+    }
 }
 
 /// A slice of the pairs in about so much time.
@@ -116,8 +138,8 @@ pub fn slice(time: Duration) {
         ("clear text", clear_block(3), time / 5),
         ("plain text", plain_block(4), time / 5),
         ("clear text", clear_block(4), time / 5),
-        ("frame", full_frame(5, 4_096), time / 10),
-        ("frame", full_frame(6, 65_536), time / 10),
+        ("frame", frame(5, 4_096), time / 10),
+        ("frame", frame(6, 65_536), time / 10),
     ];
     for (name, specimen, time) in &specimens {
         slice_of(name, specimen, *time);

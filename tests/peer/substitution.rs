@@ -2,7 +2,7 @@
 //! replaced by every other value.
 
 use crate::counts::Counts;
-use crate::peer::signs::Link;
+use crate::peer::signs::{Link, DLE, ETX, SOH, STX};
 use crate::property::may_differ;
 use crate::specimen::Specimen;
 
@@ -29,6 +29,15 @@ const CONTENTS: [&[u8]; 3] = [
     &[0x1F, 0xF8, 0x00, 0x3F, 0xFC],
 ];
 
+/// Lengths of longer texts and contents: around one sixteen and two of the
+/// walk, and where the checks start to fold (48, 64, 80) and behind.
+const LONGER: [usize; 10] = [15, 16, 17, 31, 32, 33, 48, 64, 80, 100];
+
+/// Characters above every sign, then some beside the signs, then any bytes.
+const ABOVE: [u8; 5] = [0x41, 0x20, 0x7F, 0x52, 0x33];
+const BESIDE: [u8; 5] = [0x00, 0x41, 0x1E, 0x11, 0x7F];
+const ANY: [u8; 5] = [0xFF, 0x03, 0x41, 0x16, 0x90];
+
 /// The lines and frames that are damaged.
 pub fn specimens() -> Vec<Specimen> {
     let mut specimens = Vec::new();
@@ -42,14 +51,44 @@ pub fn specimens() -> Vec<Specimen> {
     ] {
         let link = Link { method, odd };
         specimens.extend(PLAIN.map(|characters| Specimen::block(link, characters)));
+        specimens.extend(LONGER.map(|length| longer(link, length)));
         if !link.seven_bits() {
             specimens.extend(CLEAR.map(|characters| Specimen::block(link, characters)));
+            specimens.extend(LONGER.map(|length| longer_clear(link, length)));
         }
     }
     for method in [5, 6] {
         specimens.extend(CONTENTS.map(|content| Specimen::frame(method, content)));
+        specimens.extend(LONGER.map(|length| Specimen::frame(method, &repeated(&ANY, length))));
     }
     specimens
+}
+
+fn repeated(bytes: &[u8], length: usize) -> Vec<u8> {
+    bytes.iter().copied().cycle().take(length).collect()
+}
+
+/// A block with a text of that length; where the length is even, a header as
+/// long stands before it, with characters beside the signs.
+fn longer(link: Link, length: usize) -> Specimen {
+    let text = [&[STX], &repeated(&ABOVE, length)[..], &[ETX]].concat();
+    let mut line = Vec::new();
+    if length % 2 == 0 {
+        line = [&[SOH], &repeated(&BESIDE, length)[..]].concat();
+    }
+    line.extend(text);
+    Specimen::block(link, &line)
+}
+
+/// A block with a clear text of that length, two DLE in its middle.
+fn longer_clear(link: Link, length: usize) -> Specimen {
+    let text = repeated(&ANY, length);
+    let (first, second) = text.split_at(length / 2);
+    let dle = [DLE, DLE];
+    Specimen::block(
+        link,
+        &[&[DLE, STX], first, &dle, second, &[DLE, ETX]].concat(),
+    )
 }
 
 pub fn run() {
