@@ -216,7 +216,7 @@ pub fn run(peers: &[&'static Calls]) -> u64 {
 pub fn run_checks(peers: &[&'static Calls]) -> u64 {
     let mut agreement = Agreement { peers, calls: 0 };
     let mut random = Random::of_seed(28_082);
-    for length in 0..600 {
+    for length in (0..600).chain([4_095, 4_096, 65_535, 65_536]) {
         agreement.checks(&random.bytes(length));
     }
     agreement.calls

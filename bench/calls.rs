@@ -214,6 +214,8 @@ extern "C" {
     fn plain_init();
     fn zlib_found() -> i32;
     fn zlib_check_6(content: *const u8, length: usize) -> u32;
+    fn libdeflate_found() -> i32;
+    fn libdeflate_check_6(content: *const u8, length: usize) -> u32;
 }
 
 /// Plain C with zlib's crc32 as its check of method 6.
@@ -223,11 +225,28 @@ pub static ZLIB: Calls = Calls {
     ..PLAIN_C
 };
 
-/// Fills the tables of plain C; tells whether zlib is there.
-pub fn init() -> bool {
+/// Plain C with libdeflate's crc32 as its check of method 6.
+pub static LIBDEFLATE: Calls = Calls {
+    name: "libdeflate",
+    check_6: libdeflate_check_6,
+    ..PLAIN_C
+};
+
+/// Which libraries with a crc32 are installed.
+#[derive(Clone, Copy, Debug)]
+pub struct Found {
+    pub zlib: bool,
+    pub libdeflate: bool,
+}
+
+/// Fills the tables of plain C; tells which libraries are there.
+pub fn init() -> Found {
     // SAFETY: called once, before any other call and any thread.
     unsafe {
         plain_init();
-        zlib_found() == 1
+        Found {
+            zlib: zlib_found() == 1,
+            libdeflate: libdeflate_found() == 1,
+        }
     }
 }

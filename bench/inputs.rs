@@ -52,16 +52,21 @@ fn filled(line: &[u8]) -> Vec<u8> {
     filled
 }
 
-/// Different inputs of one length, so many that a short one is not learnt by
-/// heart by the processor.
+/// Bytes of input of every cell. A processor learns the branches of 16 KiB by
+/// heart, and a frame is then read in two thirds of the time that new ones
+/// take; from 256 KiB on more inputs change little.
+const INPUTS: usize = 524_288;
+
+/// Different inputs of one length, too many to be learnt.
 fn several<T>(length: usize, mut input: impl FnMut() -> T) -> Vec<T> {
-    (0..(16_384 / length).max(1)).map(|_| input()).collect()
+    (0..INPUTS / length).map(|_| input()).collect()
 }
 
-/// Makes the call with one input after the other, from the first on.
+/// Makes the call with one input after the other. A sample goes on where the
+/// last one stopped, so that no few inputs are met again and again.
 fn in_turn<T: 'static>(inputs: Vec<T>, mut call: impl FnMut(&Calls, &T) + 'static) -> Case {
+    let mut place = 0;
     Box::new(move |calls, times| {
-        let mut place = 0;
         for _ in 0..times {
             call(calls, black_box(&inputs[place]));
             place = if place + 1 < inputs.len() {

@@ -11,6 +11,11 @@ const ROUNDS: usize = 200;
 /// How long a sample lasts at least; one call where a call lasts longer.
 const SAMPLE: Duration = Duration::from_micros(300);
 
+/// Columns of a name, of a ratio and of nanoseconds.
+const NAME: usize = 42;
+const RATIO: usize = 6;
+const NANOSECONDS: usize = 8;
+
 /// One case, timed with the library and with each peer.
 struct Cell {
     case: Case,
@@ -90,11 +95,11 @@ impl Row {
 
     /// A value of each cell; nothing where the row has no such length or peer.
     fn print(&self, columns: usize, width: usize, value: impl Fn(&Cell) -> Option<String>) {
+        print!("  ");
         for column in 0..columns {
             let value = self.cells.get(column).and_then(&value);
             print!("{:>width$}", value.unwrap_or_else(|| "-".to_string()));
         }
-        print!("   ");
     }
 }
 
@@ -118,32 +123,33 @@ fn nanoseconds(cell: &Cell) -> Option<String> {
 }
 
 impl Table {
-    /// The names of the columns over their lengths.
+    /// The names of the groups of columns over their lengths.
     fn print_head(&self) {
-        for (side, width) in [("C", 7), ("Rust", 7), ("ns", 9)] {
-            print!("   {side:>all$}", all = width * self.lengths.len());
+        let columns = self.lengths.len();
+        print!("\n{:<NAME$}", "");
+        for (side, width) in [("C", RATIO), ("Rust", RATIO), ("ns", NANOSECONDS)] {
+            print!("  {side:>all$}", all = width * columns);
         }
-        print!("\n{:<42}", self.title);
-        for width in [7, 7, 9] {
+        print!("\n{:<NAME$}", self.title);
+        for width in [RATIO, RATIO, NANOSECONDS] {
+            print!("  ");
             self.lengths
                 .iter()
                 .for_each(|length| print!("{length:>width$}"));
-            print!("   ");
         }
         println!();
     }
 
     pub fn print(&self) {
-        print!("\n{:<39}", "");
         self.print_head();
         for row in &self.rows {
-            print!("{:<42}", row.name);
+            print!("{:<NAME$}", row.name);
             for peer in [1, 2] {
-                row.print(self.lengths.len(), 7, |cell| {
+                row.print(self.lengths.len(), RATIO, |cell| {
                     (peer < cell.sides.len()).then(|| format!("{:.2}", cell.ratio(peer)))
                 });
             }
-            row.print(self.lengths.len(), 9, nanoseconds);
+            row.print(self.lengths.len(), NANOSECONDS, nanoseconds);
             println!();
         }
     }

@@ -25,4 +25,8 @@ uint32_t plain_check_6(const uint8_t *content, size_t length);
 /* zlib's crc32, where zlib is installed: zlib_found then returns 1. */
 int zlib_found(void);
 uint32_t zlib_check_6(const uint8_t *content, size_t length);
+
+/* The same of libdeflate. */
+int libdeflate_found(void);
+uint32_t libdeflate_check_6(const uint8_t *content, size_t length);
 #endif
