@@ -2,30 +2,29 @@
 -- Assumes nothing.
 use mathlib.Core.Path.{sym, _∙_}
 use Rattle.corridor.proofs.Answered.{block-answered}
-use borrow.Author.Needs.{needs}
 use Rattle.corridor.proofs.blocks.corridor_read_block.Statement.{statement}
 use Rattle.corridor.proofs.blocks.corridor_read_block.Tie as tie
 
 method-of-requires : tie.Need-method-of-requires
-method-of-requires c κs = search needs
+method-of-requires c κs = tt
 
 enum-known-m : tie.Need-enum-known-m
-enum-known-m c = search needs
+enum-known-m c = c .match .keys1
 
 enum-told : tie.Need-enum-told
-enum-told c = search needs
+enum-told c = c .match .keys2
 
 returns : tie.Need-returns
 returns c = rw (sym (c .before .before .method-of .ensures) ∙ c .enum-told .given .1)
 
 parity-of-requires : tie.Need-parity-of-requires
-parity-of-requires c κs = search needs
+parity-of-requires c κs = tt
 
 enum-known-p : tie.Need-enum-known-p
-enum-known-p c = search needs
+enum-known-p c = c .match2 .keys1
 
 enum-told-2 : tie.Need-enum-told-2
-enum-told-2 c = search needs
+enum-told-2 c = c .match2 .keys2
 
 returns-2 : tie.Need-returns-2
 returns-2 c =
@@ -33,16 +32,16 @@ returns-2 c =
     rw (sym (m .before .before .method-of .ensures) ∙ m .m .given .1, sym (c .before .before .parity-of .ensures) ∙ c .enum-told2 .given .1)
 
 read-block-requires : tie.Need-read-block-requires
-read-block-requires c κs = search needs
+read-block-requires c κs = tt
 
 read-values-requires : tie.Need-read-values-requires
-read-values-requires c κs = search needs
+read-values-requires c κs = tt
 
 read-number-requires : tie.Need-read-number-requires
-read-number-requires c κs = search needs
+read-number-requires c κs = tt
 
 same-length : tie.Need-same-length
-same-length c = search needs
+same-length c = c .before .before .before .out .given
 
 returns-3 : tie.Need-returns-3
 returns-3 c =

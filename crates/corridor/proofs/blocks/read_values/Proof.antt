@@ -1,19 +1,18 @@
 -- `read_values` meets its contract: each arm knows the answer. Assumes nothing.
-use borrow.Author.Needs.{needs}
 use Rattle.corridor.proofs.blocks.read_values.Statement.{statement}
 use Rattle.corridor.proofs.blocks.read_values.Tie as tie
 
 enum-known-read : tie.Need-enum-known-read
-enum-known-read c = search needs
+enum-known-read c = c .match .keys1
 
 parts-of-requires : tie.Need-parts-of-requires
-parts-of-requires c κs = search needs
+parts-of-requires c κs = tt
 
 enum-known-read-2 : tie.Need-enum-known-read-2
-enum-known-read-2 c = search needs
+enum-known-read-2 c = c .match .keys2
 
 read-value-requires : tie.Need-read-value-requires
-read-value-requires c κs = search needs
+read-value-requires c κs = tt
 
 returns : tie.Need-returns
 returns c = rw (c .before .before .read .given .1) (c .parts-of .ensures)

@@ -2,33 +2,32 @@
 -- Assumes nothing.
 use mathlib.Core.Path.{sym, _∙_}
 use Rattle.corridor.proofs.Answered.{frame-answered}
-use borrow.Author.Needs.{needs}
 use Rattle.corridor.proofs.frames.corridor_read_frame.Statement.{statement}
 use Rattle.corridor.proofs.frames.corridor_read_frame.Tie as tie
 
 frame-method-of-requires : tie.Need-frame-method-of-requires
-frame-method-of-requires c κs = search needs
+frame-method-of-requires c κs = tt
 
 enum-known-m : tie.Need-enum-known-m
-enum-known-m c = search needs
+enum-known-m c = c .match .keys1
 
 enum-told : tie.Need-enum-told
-enum-told c = search needs
+enum-told c = c .match .keys2
 
 returns : tie.Need-returns
 returns c = rw (sym (c .before .before .frame-method-of .ensures) ∙ c .enum-told .given .1)
 
 read-frame-requires : tie.Need-read-frame-requires
-read-frame-requires c κs = search needs
+read-frame-requires c κs = tt
 
 read-value-requires : tie.Need-read-value-requires
-read-value-requires c κs = search needs
+read-value-requires c κs = tt
 
 read-number-requires : tie.Need-read-number-requires
-read-number-requires c κs = search needs
+read-number-requires c κs = tt
 
 same-length : tie.Need-same-length
-same-length c = search needs
+same-length c = c .before .before .before .out .given
 
 returns-2 : tie.Need-returns-2
 returns-2 c =

@@ -1,27 +1,26 @@
 -- `written_number` meets its contract: a refusal's number fits. Assumes nothing.
 use native.Mathlib.Omega.{arith}
 use Rattle.corridor.proofs.Fits.{frame-write-small}
-use borrow.Author.Needs.{needs}
 use Rattle.corridor.proofs.frames.written_number.Statement.{statement}
 use Rattle.corridor.proofs.frames.written_number.Tie as tie
 
 enum-told : tie.Need-enum-told
-enum-told c = search needs
+enum-told c = c .match .keys1
 
 enum-known-written : tie.Need-enum-known-written
-enum-known-written c = search needs
+enum-known-written c = c .match .keys2
 
 frame-write-number-requires : tie.Need-frame-write-number-requires
-frame-write-number-requires c κs = search needs
+frame-write-number-requires c κs = tt
 
 cast-result : tie.Need-cast-result
 cast-result c = omega (arith, frame-write-small (c .before .before .written .given .0 .0))
 
 returns : tie.Need-returns
-returns c = search needs
+returns c = rw (c .enum-told .given .1)
 
 returns-2 : tie.Need-returns-2
-returns-2 c = search needs
+returns-2 c = rw (c .before .before .written .given .1) (c .frame-write-number .ensures)
 
 pub written-number-spec : {M : Type 1} → statement M
 written-number-spec =

@@ -1,17 +1,16 @@
 -- `corridor_receive` meets its contract: `receive` answers by the rule, and the answer is turned into numbers. Assumes nothing.
 use Rattle.corridor.proofs.Answered.{received}
-use borrow.Author.Needs.{needs}
 use Rattle.corridor.proofs.numbers.corridor_receive.Statement.{statement}
 use Rattle.corridor.proofs.numbers.corridor_receive.Tie as tie
 
 receive-requires : tie.Need-receive-requires
-receive-requires c κs = search needs
+receive-requires c κs = tt
 
 verdict-of-requires : tie.Need-verdict-of-requires
-verdict-of-requires c κs = search needs
+verdict-of-requires c κs = tt
 
 number-of-requires : tie.Need-number-of-requires
-number-of-requires c κs = search needs
+number-of-requires c κs = tt
 
 returns : tie.Need-returns
 returns c =

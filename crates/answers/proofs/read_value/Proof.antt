@@ -1,0 +1,80 @@
+-- `read_value` meets its contract: each arm knows the refusal. Assumes nothing.
+use Rattle.answers.proofs.read_value.Statement.{statement}
+use Rattle.answers.proofs.read_value.Tie as tie
+
+enum-told : tie.Need-enum-told
+enum-told c = c .match .keys1
+
+enum-known-refusal : tie.Need-enum-known-refusal
+enum-known-refusal c = c .match .keys2
+
+enum-told-2 : tie.Need-enum-told-2
+enum-told-2 c = c .match .keys3
+
+enum-known-refusal-2 : tie.Need-enum-known-refusal-2
+enum-known-refusal-2 c = c .match .keys4
+
+enum-told-3 : tie.Need-enum-told-3
+enum-told-3 c = c .match .keys5
+
+enum-known-refusal-3 : tie.Need-enum-known-refusal-3
+enum-known-refusal-3 c = c .match .keys6
+
+enum-told-4 : tie.Need-enum-told-4
+enum-told-4 c = c .match .keys7
+
+enum-told-5 : tie.Need-enum-told-5
+enum-told-5 c = c .match .keys8
+
+enum-known-refusal-4 : tie.Need-enum-known-refusal-4
+enum-known-refusal-4 c = c .match .keys9
+
+returns : tie.Need-returns
+returns c = rw (c .enum-told .given .1)
+
+returns-2 : tie.Need-returns-2
+returns-2 c = rw (c .before .refusal .given .1)
+
+returns-3 : tie.Need-returns-3
+returns-3 c = rw (c .enum-told2 .given .1)
+
+returns-4 : tie.Need-returns-4
+returns-4 c = rw (c .before .refusal2 .given .1)
+
+returns-5 : tie.Need-returns-5
+returns-5 c = rw (c .enum-told3 .given .1)
+
+returns-6 : tie.Need-returns-6
+returns-6 c = rw (c .before .refusal3 .given .1)
+
+returns-7 : tie.Need-returns-7
+returns-7 c = rw (c .enum-told4 .given .1)
+
+returns-8 : tie.Need-returns-8
+returns-8 c = rw (c .enum-told5 .given .1)
+
+returns-9 : tie.Need-returns-9
+returns-9 c = rw (c .before .refusal4 .given .1)
+
+pub read-value-spec : {M : Type 1} → statement M
+read-value-spec =
+    tie.close
+    (tie.spec
+    enum-told
+    enum-known-refusal
+    enum-told-2
+    enum-known-refusal-2
+    enum-told-3
+    enum-known-refusal-3
+    enum-told-4
+    enum-told-5
+    enum-known-refusal-4
+    returns
+    returns-2
+    returns-3
+    returns-4
+    returns-5
+    returns-6
+    returns-7
+    returns-8
+    returns-9)
