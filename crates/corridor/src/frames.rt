@@ -43,7 +43,7 @@ pub extern "C" fn corridor_read_frame(
     let FrameMethodCode::Known(m) = frame_method_of(method) else {
         return UNKNOWN_CODE;
     };
-    let read = frame::read_frame(m, bits, lent, &mut *out);
+    let read = frame_reader::read_frame(m, bits, lent, &mut *out);
     *value = read_value(read);
     read_number(read)
 }
@@ -80,7 +80,7 @@ pub extern "C" fn corridor_write_frame(
     let FrameMethodCode::Known(m) = frame_method_of(method) else {
         return UNKNOWN_CODE;
     };
-    let written = frame::write_frame(m, content, &mut *out);
+    let written = frame_writer::write_frame(m, content, &mut *out);
     *value = written_value(written);
     written_number(written)
 }

@@ -1,15 +1,3 @@
 pub mod Stuffing
-pub mod Writers
-pub mod Written
-pub mod Places
-pub mod Removal
-pub mod WholeBytes
-pub mod Turns
-pub mod Received
-pub mod Questions
-pub mod ReadFrame
 pub mod OneToOne
-pub mod Bytewise
 pub mod Words
-pub mod Parts
-pub mod Judging

@@ -9,9 +9,9 @@ use native.Mathlib.Nat.{div-lt-iff-lt-mul}
 use native.Mathlib.Numerals.{add-one}
 use lib.Bits.{bitOr, or-shifted-r}
 use lib.Pow.{pow-add, pow-pos, shl-exact, shr-lt, high, low}
-use lib.ListN.{length, set, length-append}
-use lib.Seq.{sets, take-at, drop-at, take-all}
-use Rattle.bits.specs.Bytes.{lowBits, value, bytesFor, packInto, pack}
+use lib.ListN.{length, set, length-append, getD, drop, drop-of-length-le}
+use lib.Seq.{sets, take-at, drop-at, take-all, drop-cons}
+use Rattle.bits.specs.Bytes.{lowBits, value, bytesFor, packInto, pack, bitsOf}
 use Rattle.bits.proofs.Bytes.{length-lowBits, lowBits-append, lowBits-mod, value-lowBits}
 
 -- ---- n bits above the held ones
@@ -64,3 +64,12 @@ pack-part p x h l =
 -- of a number of a byte and n bits more
 pub rest-small : (n : ℕ) {x : ℕ} → x < 2 ^ (n + 8) → x / 256 < 2 ^ n
 rest-small n h = shr-lt n 8 h
+
+module _ (bytes : List ℕ) (i : ℕ) where
+  pub bitsOf-on : i < length bytes → bitsOf (drop i bytes) ≡ lowBits 8 (getD bytes i 0) ++ bitsOf (drop (i + 1) bytes)
+  unfolding bitsOf
+  bitsOf-on h = rw (add-one, drop-cons bytes i 0)
+
+  pub bitsOf-none : length bytes ≤ i → bitsOf (drop i bytes) ≡ []
+  unfolding bitsOf
+  bitsOf-none h = ap bitsOf (drop-of-length-le bytes h)

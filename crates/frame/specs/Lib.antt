@@ -3,5 +3,3 @@ pub mod Frame
 pub mod Write
 pub mod Read
 pub mod Answers
-pub mod Bytewise
-pub mod Steps

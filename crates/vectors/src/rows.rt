@@ -12,7 +12,7 @@ use block::Shape;
 use block_reader::read_block;
 use block_writer::write_block;
 use frame::FrameMethod;
-use frame::write_frame;
+use frame_writer::write_frame;
 
 pub fn row_13() {
     let mut out = [0u8; 16];

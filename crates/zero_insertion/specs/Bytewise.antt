@@ -1,0 +1,62 @@
+-- Zero insertion and removal in a part of the line, and in one byte of it. Assumes nothing.
+use mathlib.Core.Path.{_≡_}
+use Prim.Native.Nat.{ℕ, _+_, _-_, _/_, _^_, _<_, _≤_}
+use mathlib.Core.Bool.{Bool}
+use mathlib.Core.List.{List, [], _∷_, _++_}
+use lib.Dec.{eqb}
+use lib.Bits.{bitAnd}
+use Rattle.bits.specs.Bytes.{lowBits}
+use Rattle.zero_insertion.specs.declared.SentByte.{SentByte}
+use Rattle.zero_insertion.specs.declared.ReceivedByte.{ReceivedByte}
+use Rattle.frame.specs.Stuffing.{stuff, runAfter, Unstuffed, clean, missing, unstuffBit, onesAfter}
+
+-- a one at each place where five ones in a row start
+unfoldable pub fivesIn : ℕ → ℕ
+fivesIn x = bitAnd (bitAnd (bitAnd x (x / 2 ^ 1)) (bitAnd x (x / 2 ^ 1) / 2 ^ 2)) (x / 2 ^ 4)
+
+-- ---- sending
+
+-- the ones in a row at the end of the last four bits sent
+unfoldable pub runBefore : ℕ → ℕ
+runBefore before = runAfter 0 (lowBits 4 before)
+
+-- what a byte becomes behind four bits
+pub record Sends (before byte : ℕ) (s : SentByte) : Type 0 where
+  pub bits-are : stuff (runBefore before) (lowBits 8 byte) ≡ lowBits (8 + s .zeros) (s .bits)
+  pub run-is : runAfter (runBefore before) (lowBits 8 byte) ≡ runBefore (s .before)
+  pub few : s .zeros ≤ 2
+  pub bits-small : s .bits < 2 ^ (8 + s .zeros)
+  pub before-small : s .before < 16
+
+-- ---- receiving
+
+-- the ones in a row on the line after some bits
+unfoldable pub onesThrough : ℕ → List Bool → ℕ
+onesThrough run [] = run
+onesThrough run (b ∷ s) = onesThrough (onesAfter run b) s
+
+-- the ones in a row at the end of the last five bits received
+unfoldable pub onesBefore : ℕ → ℕ
+onesBefore before = onesThrough 0 (lowBits 5 before)
+
+-- zero removal in a part of the line, from the place p on
+unfoldable pub unstuffPart : ℕ → ℕ → List Bool → Unstuffed
+unstuffPart run p [] = clean []
+unstuffPart run p (b ∷ s) = unstuffBit (eqb run 5) b p (unstuffPart (onesAfter run b) (p + 1) s)
+
+-- bits in front of what the rest gives
+abbrev pub inFront : List Bool → Unstuffed → Unstuffed
+inFront d (clean s) = clean (d ++ s)
+inFront d (missing p) = missing p
+
+abbrev pub receivedByte : ℕ → ℕ → ℕ → ReceivedByte
+receivedByte bits zeros place = record { bits = bits; zeros = zeros; missing = place }
+
+-- what a byte gives behind five bits
+pub record Receives (before byte : ℕ) (r : ReceivedByte) : Type 0 where
+  pub sound : r .missing ≡ 8 → unstuffPart (onesBefore before) 0 (lowBits 8 byte) ≡ clean (lowBits (8 - r .zeros) (r .bits))
+  pub unsound : r .missing < 8 → unstuffPart (onesBefore before) 0 (lowBits 8 byte) ≡ missing (r .missing)
+  pub run-is : r .missing ≡ 8 → onesThrough (onesBefore before) (lowBits 8 byte) ≡ onesBefore (byte / 2 ^ 3)
+  pub few : r .zeros ≤ 2
+  pub bits-small : r .bits < 2 ^ (8 - r .zeros)
+  pub missing-le : r .missing ≤ 8
