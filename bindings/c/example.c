@@ -55,11 +55,11 @@ static void block(void)
     printf("taken: header %zu, text %zu, counted %zu\n",
            answer[2], answer[3], answer[4]);
 
-    line[4] ^= 1; /* one bit of the header's neighbour, the inner start */
+    line[3] ^= 1; /* one bit of the inner start, behind the header */
     memset(out, 0xEE, sizeof out);
     number = corridor_read_block(CORRIDOR_MATRIX, CORRIDOR_EVEN, line, length,
                                  out, sizeof out, answer);
-    expect(number == 12 && answer[0] == 4, "a wrong parity is refused");
+    expect(number == 12 && answer[0] == 3, "a wrong parity is refused");
     expect(out[0] == 0xEE, "the output keeps its bytes");
     printf("damaged: refused %" PRIu32 " at %zu\n", number, answer[0]);
 }

@@ -18,8 +18,16 @@ const CALLS: [(Call, &str, &[usize]); 5] = [
     (Call::Receive, "judge a number", &[]),
 ];
 
-/// Every number that document 01 gives to a question.
-const QUESTIONS: [std::ops::RangeInclusive<usize>; 5] = [1..=6, 11..=19, 21..=23, 31..=38, 41..=43];
+/// Every number that document 01 gives to a question of the call.
+fn questions(call: Call) -> std::ops::RangeInclusive<usize> {
+    match call {
+        Call::ReadBlock => 11..=19,
+        Call::WriteBlock => 1..=6,
+        Call::ReadFrame => 31..=38,
+        Call::WriteFrame => 21..=23,
+        Call::Receive => 41..=43,
+    }
+}
 
 const NUMBERS: usize = 64;
 
@@ -52,19 +60,19 @@ impl Tally {
         self.counts.iter().flatten().flatten().sum()
     }
 
-    /// The numbers of document 01 that no call answered.
-    pub fn missing(&self) -> Vec<usize> {
-        let met = |number: &usize| {
-            self.counts
-                .iter()
-                .any(|call| call[*number].iter().any(|n| *n > 0))
-        };
-        QUESTIONS
-            .iter()
-            .cloned()
-            .flatten()
-            .filter(|number| !met(number))
-            .collect()
+    /// The numbers of document 01 that their call never answered, and calls
+    /// that never succeeded (0).
+    pub fn missing(&self) -> Vec<(Call, usize)> {
+        let mut missing = Vec::new();
+        for (call, _, _) in CALLS {
+            for number in std::iter::once(0).chain(questions(call)) {
+                let met: u64 = self.counts[call as usize][number].iter().sum();
+                if met == 0 {
+                    missing.push((call, number));
+                }
+            }
+        }
+        missing
     }
 
     /// Prints a table for each call: a line for each answer number met, a
