@@ -24,23 +24,14 @@ enum Data {
 
 const DATA: [Data; 2] = [Data::Above, Data::Any];
 
-/// Every link and shape it carries. Methods 3 and 4 carry no parity, so one
-/// setting of it is enough.
+/// Every link, with each shape that it carries.
 fn kinds() -> Vec<(Link, Shape)> {
-    let links = [
-        (1, false),
-        (1, true),
-        (2, false),
-        (2, true),
-        (3, false),
-        (4, false),
-    ];
     let carried = |(method, odd)| {
         let link = Link { method, odd };
         let shapes = if link.seven_bits() { 3 } else { 5 };
         SHAPES.into_iter().take(shapes).map(move |s| (link, s))
     };
-    links.into_iter().flat_map(carried).collect()
+    lines::LINKS.into_iter().flat_map(carried).collect()
 }
 
 /// Parts of the told lengths; a part that the shape lacks stays empty.

@@ -7,7 +7,7 @@ use crate::judge::{differ, hex, Form, Judge, Room, Settings};
 use crate::lines::{self, Fill};
 use crate::peer::block::{self, Parts};
 use crate::random::Random;
-use crate::small::settings;
+use crate::small::{form, settings};
 
 /// A long line or frame comes once in so many rounds.
 const LONG_ONCE_IN: usize = 4_000;
@@ -29,16 +29,6 @@ fn room(random: &mut Random) -> Room {
         3 => Room::Needed(-(random.below(6) as isize)),
         4 => Room::Needed(1),
         _ => Room::Needed(0),
-    }
-}
-
-fn form(parts: &Parts) -> Form<'_> {
-    Form {
-        settings: settings(parts.link),
-        shape: parts.shape.number() as u8,
-        end_sign: parts.end_sign,
-        header: &parts.header,
-        text: &parts.text,
     }
 }
 

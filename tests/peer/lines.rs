@@ -13,6 +13,17 @@ pub enum Fill {
     Everywhere,
 }
 
+/// Every setting of a link. Methods 3 and 4 carry no parity, so one setting of
+/// it is enough.
+pub const LINKS: [(u8, bool); 6] = [
+    (1, false),
+    (1, true),
+    (2, false),
+    (2, true),
+    (3, false),
+    (4, false),
+];
+
 pub fn link(random: &mut Random) -> Link {
     let method = 1 + random.below(4) as u8;
     Link {

@@ -5,6 +5,7 @@ use crate::frames;
 use crate::judge::{Form, Judge, Room, Settings};
 use crate::lines::{sealed, with_parity};
 use crate::peer::bits;
+use crate::peer::block::Parts;
 use crate::peer::frame::FLAG;
 use crate::peer::signs::Link;
 
@@ -40,6 +41,17 @@ pub fn settings(link: Link) -> Settings {
     Settings {
         method: link.method,
         parity: u8::from(link.odd),
+    }
+}
+
+/// What the writing call is given for these parts.
+pub fn form(parts: &Parts) -> Form<'_> {
+    Form {
+        settings: settings(parts.link),
+        shape: parts.shape.number() as u8,
+        end_sign: parts.end_sign,
+        header: &parts.header,
+        text: &parts.text,
     }
 }
 

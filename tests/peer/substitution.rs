@@ -2,6 +2,7 @@
 //! replaced by every other value.
 
 use crate::counts::Counts;
+use crate::lines::LINKS;
 use crate::peer::signs::{Link, DLE, ETX, SOH, STX};
 use crate::property::may_differ;
 use crate::specimen::Specimen;
@@ -41,14 +42,7 @@ const ANY: [u8; 5] = [0xFF, 0x03, 0x41, 0x16, 0x90];
 /// The lines and frames that are damaged.
 pub fn specimens() -> Vec<Specimen> {
     let mut specimens = Vec::new();
-    for (method, odd) in [
-        (1, false),
-        (1, true),
-        (2, false),
-        (2, true),
-        (3, false),
-        (4, false),
-    ] {
+    for (method, odd) in LINKS {
         let link = Link { method, odd };
         specimens.extend(PLAIN.map(|characters| Specimen::block(link, characters)));
         specimens.extend(LONGER.map(|length| longer(link, length)));

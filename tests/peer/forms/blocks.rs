@@ -3,12 +3,11 @@
 //! parities of a line are judged 16 at once.
 
 use super::{kinds, parts, Data, DATA};
-use crate::judge::{Form, Judge, Room};
+use crate::judge::{Judge, Room};
 use crate::lines::{filled, sealed};
-use crate::peer::block::Parts;
 use crate::peer::signs::{Link, Shape, DLE, RESERVED, SHAPES};
 use crate::random::Random;
-use crate::small::settings;
+use crate::small::{form, settings};
 
 /// Header and text are tried up to this length together, and up to `ALONE`
 /// where the other is empty.
@@ -41,16 +40,6 @@ pub fn run(judge: &mut Judge, random: &mut Random) {
         if kind.0.seven_bits() {
             parities(judge, random, kind);
         }
-    }
-}
-
-fn form(parts: &Parts) -> Form<'_> {
-    Form {
-        settings: settings(parts.link),
-        shape: parts.shape.number() as u8,
-        end_sign: parts.end_sign,
-        header: &parts.header,
-        text: &parts.text,
     }
 }
 
