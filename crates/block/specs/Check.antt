@@ -31,7 +31,7 @@ unfoldable pub xorAll : ℕ → List ℕ → ℕ
 xorAll sum [] = sum
 xorAll sum (b ∷ bs) = xorAll (bitXor sum b) bs
 
--- its bytes
+-- the bytes of its check
 abbrev pub checkLength : Method → ℕ
 checkLength method.Parity = 0
 checkLength method.Matrix = 1

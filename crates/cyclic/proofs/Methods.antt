@@ -1,4 +1,4 @@
--- The four methods: their widths, what a receiver finds, and the checks of rows 11 and 12. Assumes nothing.
+-- The four methods: their widths, what a receiver finds, method 4's formula, and the check that a register holds. Assumes nothing.
 use mathlib.Core.Path.{_≡_, refl, sym, ap, _∙_}
 use Prim.Native.Nat.{ℕ, _+_, _<_}
 use native.Mathlib.Omega.{arith}
