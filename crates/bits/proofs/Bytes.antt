@@ -10,9 +10,9 @@ use lib.Dec.{eqb}
 use lib.Bits.{bitXor, xor-mod, xor-shr}
 use lib.Pow.{shr-shr, field, mod-mod-pow, mod-pow-add}
 use lib.ListN.{length, length-append}
-use Rattle.bits.specs.Strings.{add, xor, zeros, ones, invert}
+use Rattle.bits.specs.Strings.{add, xorBits, zeros, ones, invert}
 use Rattle.bits.specs.Bytes.{lowBits, bitsOf, Bytes, digit, value}
-use Rattle.bits.proofs.Strings.{append-split, invert-xor, xor-append, xor-comm}
+use Rattle.bits.proofs.Strings.{append-split, invert-xor, xorBits-append, xorBits-comm}
 
 -- ---- lowBits
 
@@ -53,7 +53,7 @@ differ-bit (suc zero) (suc zero) h k = refl
 differ-bit (suc zero) (suc (suc y)) h k = absurd (omega arith)
 differ-bit (suc (suc x)) y h k = absurd (omega arith)
 
-pub lowBits-xor : (w m n : ℕ) → lowBits w (bitXor m n) ≡ xor (lowBits w m) (lowBits w n)
+pub lowBits-xor : (w m n : ℕ) → lowBits w (bitXor m n) ≡ xorBits (lowBits w m) (lowBits w n)
 unfolding lowBits
 lowBits-xor zero m n = refl
 lowBits-xor (suc w) m n =
@@ -64,8 +64,8 @@ lowBits-xor (suc w) m n =
 -- against a number whose bits are all ones
 pub lowBits-invert : (w n k : ℕ) → lowBits w k ≡ ones w → lowBits w (bitXor n k) ≡ invert (lowBits w n)
 lowBits-invert w n k all =
-    lowBits-xor w n k ∙ xor-comm (lowBits w n) (lowBits w k)
-    ∙ ap (λ z. xor z (lowBits w n)) (all ∙ ap ones (sym (length-lowBits w n))) ∙ sym (invert-xor (lowBits w n))
+    lowBits-xor w n k ∙ xorBits-comm (lowBits w n) (lowBits w k)
+    ∙ ap (λ z. xorBits z (lowBits w n)) (all ∙ ap ones (sym (length-lowBits w n))) ∙ sym (invert-xor (lowBits w n))
 
 -- ---- value
 
@@ -136,9 +136,9 @@ bitsOf-append [] b = refl
 bitsOf-append (x ∷ a) b = ap (λ z. lowBits 8 x ++ z) (bitsOf-append a b) ∙ sym (append-assoc (lowBits 8 x) (bitsOf a) (bitsOf b))
 
 -- the sum of two byte strings, a byte at a time
-pub bitsOf-xor : (a b : ℕ) (x y : List ℕ) → xor (bitsOf (a ∷ x)) (bitsOf (b ∷ y)) ≡ xor (lowBits 8 a) (lowBits 8 b) ++ xor (bitsOf x) (bitsOf y)
+pub bitsOf-xor : (a b : ℕ) (x y : List ℕ) → xorBits (bitsOf (a ∷ x)) (bitsOf (b ∷ y)) ≡ xorBits (lowBits 8 a) (lowBits 8 b) ++ xorBits (bitsOf x) (bitsOf y)
 unfolding bitsOf
-bitsOf-xor a b x y = xor-append (lowBits 8 a) (lowBits 8 b) (bitsOf x) (bitsOf y) (length-lowBits 8 a ∙ sym (length-lowBits 8 b))
+bitsOf-xor a b x y = xorBits-append (lowBits 8 a) (lowBits 8 b) (bitsOf x) (bitsOf y) (length-lowBits 8 a ∙ sym (length-lowBits 8 b))
 
 pub bitsOf-injective : (a b : List ℕ) → Bytes a → Bytes b → length a ≡ length b → bitsOf a ≡ bitsOf b → a ≡ b
 unfolding bitsOf

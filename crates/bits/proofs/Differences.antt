@@ -5,7 +5,7 @@ use native.Mathlib.Omega.{arith}
 use mathlib.Core.Bool.{Bool, true, false}
 use mathlib.Core.List.{List, [], _∷_, _++_, append-assoc, head-eq-of-cons-eq, tail-eq-of-cons-eq}
 use lib.ListN.{length}
-use Rattle.bits.specs.Strings.{xor, zeros, weight}
+use Rattle.bits.specs.Strings.{xorBits, zeros, weight}
 use Rattle.bits.specs.Differences.{setFrom, differing, Each, Burst}
 use Rattle.bits.proofs.Strings.{equal-of-xor, length-xor}
 
@@ -39,11 +39,11 @@ setFrom-injective n (false ∷ a) (false ∷ b) l h = ap (λ z. false ∷ z) (se
 
 -- ---- differing
 
-pub length-differing : (a b : List Bool) → length (differing a b) ≡ weight (xor a b)
-length-differing a b = length-setFrom 0 (xor a b)
+pub length-differing : (a b : List Bool) → length (differing a b) ≡ weight (xorBits a b)
+length-differing a b = length-setFrom 0 (xorBits a b)
 
 pub equal-of-differing : (a b : List Bool) → length a ≡ length b → differing a b ≡ [] → a ≡ b
-equal-of-differing a b h e = equal-of-xor a b h (setFrom-nil 0 (xor a b) e ∙ ap zeros (length-xor a b h))
+equal-of-differing a b h e = equal-of-xor a b h (setFrom-nil 0 (xorBits a b) e ∙ ap zeros (length-xor a b h))
 
 -- ---- Burst
 
@@ -90,8 +90,8 @@ window-from w n (true ∷ e) h = go (front w n (true ∷ e) (h .0))
     go : Front w (true ∷ e) → Window w (true ∷ e)
     go (b, a, s, q) = record { before = 0; after = a; bits = b; small = s; whole = q }
 
-pub burst-window : (w : ℕ) (a b : List Bool) → Burst w (differing a b) → Window w (xor a b)
-burst-window w a b h = window-from w 0 (xor a b) h
+pub burst-window : (w : ℕ) (a b : List Bool) → Burst w (differing a b) → Window w (xorBits a b)
+burst-window w a b h = window-from w 0 (xorBits a b) h
 
 -- ---- one set bit, two set bits
 
@@ -143,12 +143,12 @@ two-set n i j (false ∷ e) h = go (two-set (suc n) i j e h)
           inside = omega (arith, t .inside);
         }
 
-pub two-differing : (a b : List Bool) (i j : ℕ) → differing a b ≡ i ∷ j ∷ [] → TwoSet i j (xor a b)
-two-differing a b i j h = two-set 0 i j (xor a b) h
+pub two-differing : (a b : List Bool) (i j : ℕ) → differing a b ≡ i ∷ j ∷ [] → TwoSet i j (xorBits a b)
+two-differing a b i j h = two-set 0 i j (xorBits a b) h
 
 -- a single differing bit is a window of one bit
-pub one-differing : (a b : List Bool) (j : ℕ) → differing a b ≡ j ∷ [] → Window 1 (xor a b)
-one-differing a b j h = go (one-set 0 j (xor a b) h)
+pub one-differing : (a b : List Bool) (j : ℕ) → differing a b ≡ j ∷ [] → Window 1 (xorBits a b)
+one-differing a b j h = go (one-set 0 j (xorBits a b) h)
   where
-    go : OneSet 0 j (xor a b) → Window 1 (xor a b)
+    go : OneSet 0 j (xorBits a b) → Window 1 (xorBits a b)
     go (k, r, q, c, l) = record { before = k; after = r; bits = true ∷ []; small = omega arith; whole = q }

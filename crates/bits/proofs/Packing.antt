@@ -1,6 +1,6 @@
 -- Packing bits into bytes and unpacking them are inverse to each other. Assumes nothing.
 use mathlib.Core.Path.{_≡_, refl, sym, ap, ap₂, _∙_}
-use Prim.Native.Nat.{ℕ, zero, suc, _+_, _-_, _*_, _/_, _≤_, _<_}
+use Prim.Native.Nat.{ℕ, zero, suc, _+_, _-_, _*_, _/_, _%_, _≤_, _<_}
 use native.Mathlib.Omega.{arith}
 use mathlib.Core.Bool.{Bool, true, false}
 use mathlib.Core.List.{List, [], _∷_, _++_, append-assoc, append-nil}
@@ -10,7 +10,7 @@ use lib.Pow.{pow-mono}
 use lib.ListN.{length, take, drop, length-take, length-drop, take-append-drop, drop-of-length-le}
 use lib.Seq.{take-all, take-at}
 use Rattle.bits.specs.Strings.{zeros}
-use Rattle.bits.specs.Bytes.{lowBits, bitsOf, Bytes, littleEndian, value, bytesFor, packInto, pack}
+use Rattle.bits.specs.Bytes.{lowBits, bitsOf, Bytes, value, bytesFor, packInto, pack}
 use Rattle.bits.proofs.Strings.{zeros-append}
 use Rattle.bits.proofs.Bytes.{length-bitsOf, bitsOf-injective, lowBits-append, lowBits-mod, lowBits-value-zeros, value-lt}
 
@@ -85,7 +85,12 @@ pack-bitsOf bs b =
     bitsOf-injective (pack (bitsOf bs)) bs (bytes-pack (bitsOf bs)) b (length-pack (bitsOf bs) ∙ m)
     (bitsOf-pack (bitsOf bs) ∙ ap (λ k. bitsOf bs ++ zeros k) z ∙ append-nil (bitsOf bs))
 
--- ---- littleEndian
+-- ---- numbers in bytes
+
+-- n bytes of a number, the low byte first
+abbrev pub littleEndian : ℕ → ℕ → List ℕ
+littleEndian zero x = []
+littleEndian (suc n) x = x % 256 ∷ littleEndian n (x / 256)
 
 bytes-littleEndian : (n x : ℕ) → Bytes (littleEndian n x)
 bytes-littleEndian zero x = tt

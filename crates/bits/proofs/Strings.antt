@@ -6,7 +6,7 @@ use mathlib.Core.Bool.{Bool, true, false, not}
 use mathlib.Core.List.{List, [], _∷_, _++_}
 use lib.Dec.{T}
 use lib.ListN.{length, length-replicate, replicate-append-replicate}
-use Rattle.bits.specs.Strings.{add, xor, zeros, ones, invert, weight, parity, same}
+use Rattle.bits.specs.Strings.{add, xorBits, zeros, ones, invert, weight, parity, same}
 use Rattle.bits.specs.Bytes.{digit}
 
 -- ---- add
@@ -38,63 +38,63 @@ pub zeros-snoc : (n : ℕ) → zeros n ++ false ∷ [] ≡ zeros (suc n)
 zeros-snoc zero = refl
 zeros-snoc (suc n) = rw (zeros-snoc n)
 
--- ---- xor
+-- ---- xorBits
 
-pub length-xor : (a b : List Bool) → length a ≡ length b → length (xor a b) ≡ length b
+pub length-xor : (a b : List Bool) → length a ≡ length b → length (xorBits a b) ≡ length b
 length-xor [] [] h = refl
 length-xor [] (y ∷ b) h = absurd (omega arith)
 length-xor (x ∷ a) [] h = absurd (omega arith)
 length-xor (x ∷ a) (y ∷ b) h = ap suc (length-xor a b (omega arith))
 
-pub xor-comm : (a b : List Bool) → xor a b ≡ xor b a
-xor-comm [] [] = refl
-xor-comm [] (y ∷ b) = refl
-xor-comm (x ∷ a) [] = refl
-xor-comm (x ∷ a) (y ∷ b) = rw (add-comm x y, xor-comm a b)
+pub xorBits-comm : (a b : List Bool) → xorBits a b ≡ xorBits b a
+xorBits-comm [] [] = refl
+xorBits-comm [] (y ∷ b) = refl
+xorBits-comm (x ∷ a) [] = refl
+xorBits-comm (x ∷ a) (y ∷ b) = rw (add-comm x y, xorBits-comm a b)
 
-pub xor-assoc : (a b c : List Bool) → xor (xor a b) c ≡ xor a (xor b c)
-xor-assoc [] b c = refl
-xor-assoc (x ∷ a) [] c = refl
-xor-assoc (x ∷ a) (y ∷ b) [] = refl
-xor-assoc (x ∷ a) (y ∷ b) (z ∷ c) = rw (add-assoc x y z, xor-assoc a b c)
+pub xorBits-assoc : (a b c : List Bool) → xorBits (xorBits a b) c ≡ xorBits a (xorBits b c)
+xorBits-assoc [] b c = refl
+xorBits-assoc (x ∷ a) [] c = refl
+xorBits-assoc (x ∷ a) (y ∷ b) [] = refl
+xorBits-assoc (x ∷ a) (y ∷ b) (z ∷ c) = rw (add-assoc x y z, xorBits-assoc a b c)
 
-pub xor-left-comm : (a b c : List Bool) → xor a (xor b c) ≡ xor b (xor a c)
-xor-left-comm a b c = rw (← xor-assoc a b c, xor-comm a b, xor-assoc b a c)
+pub xorBits-left-comm : (a b c : List Bool) → xorBits a (xorBits b c) ≡ xorBits b (xorBits a c)
+xorBits-left-comm a b c = rw (← xorBits-assoc a b c, xorBits-comm a b, xorBits-assoc b a c)
 
-pub xor-nil : (a : List Bool) → xor a [] ≡ []
-xor-nil [] = refl
-xor-nil (x ∷ a) = refl
+pub xorBits-nil : (a : List Bool) → xorBits a [] ≡ []
+xorBits-nil [] = refl
+xorBits-nil (x ∷ a) = refl
 
-pub xor-zeros : (n : ℕ) (a : List Bool) → length a ≡ n → xor (zeros n) a ≡ a
-xor-zeros zero [] h = refl
-xor-zeros zero (x ∷ a) h = absurd (omega arith)
-xor-zeros (suc n) [] h = absurd (omega arith)
-xor-zeros (suc n) (x ∷ a) h = rw (xor-zeros n a (omega arith))
+pub xorBits-zeros : (n : ℕ) (a : List Bool) → length a ≡ n → xorBits (zeros n) a ≡ a
+xorBits-zeros zero [] h = refl
+xorBits-zeros zero (x ∷ a) h = absurd (omega arith)
+xorBits-zeros (suc n) [] h = absurd (omega arith)
+xorBits-zeros (suc n) (x ∷ a) h = rw (xorBits-zeros n a (omega arith))
 
-pub xor-self : (a : List Bool) → xor a a ≡ zeros (length a)
-xor-self [] = refl
-xor-self (true ∷ a) = rw (xor-self a)
-xor-self (false ∷ a) = rw (xor-self a)
+pub xorBits-self : (a : List Bool) → xorBits a a ≡ zeros (length a)
+xorBits-self [] = refl
+xorBits-self (true ∷ a) = rw (xorBits-self a)
+xorBits-self (false ∷ a) = rw (xorBits-self a)
 
 -- a string added twice is gone
-pub xor-cancel : (p a : List Bool) → length a ≡ length p → xor p (xor p a) ≡ a
-xor-cancel p a h = sym (xor-assoc p p a) ∙ ap (λ z. xor z a) (xor-self p) ∙ xor-zeros (length p) a h
+pub xorBits-cancel : (p a : List Bool) → length a ≡ length p → xorBits p (xorBits p a) ≡ a
+xorBits-cancel p a h = sym (xorBits-assoc p p a) ∙ ap (λ z. xorBits z a) (xorBits-self p) ∙ xorBits-zeros (length p) a h
 
-pub xor-injective : (p a b : List Bool) → length a ≡ length p → length b ≡ length p → xor p a ≡ xor p b → a ≡ b
-xor-injective p a b h k e = sym (xor-cancel p a h) ∙ ap (xor p) e ∙ xor-cancel p b k
+pub xorBits-injective : (p a b : List Bool) → length a ≡ length p → length b ≡ length p → xorBits p a ≡ xorBits p b → a ≡ b
+xorBits-injective p a b h k e = sym (xorBits-cancel p a h) ∙ ap (xorBits p) e ∙ xorBits-cancel p b k
 
 -- two strings of one length whose sum is zero are equal
-pub equal-of-xor : (a b : List Bool) → length a ≡ length b → xor a b ≡ zeros (length b) → a ≡ b
+pub equal-of-xor : (a b : List Bool) → length a ≡ length b → xorBits a b ≡ zeros (length b) → a ≡ b
 equal-of-xor a b h e =
-    sym (xor-cancel b a h) ∙ ap (xor b) (xor-comm b a ∙ e) ∙ xor-comm b (zeros (length b)) ∙ xor-zeros (length b) b refl
+    sym (xorBits-cancel b a h) ∙ ap (xorBits b) (xorBits-comm b a ∙ e) ∙ xorBits-comm b (zeros (length b)) ∙ xorBits-zeros (length b) b refl
 
-pub xor-append : (a b c d : List Bool) → length a ≡ length b → xor (a ++ c) (b ++ d) ≡ xor a b ++ xor c d
-xor-append [] [] c d h = refl
-xor-append [] (y ∷ b) c d h = absurd (omega arith)
-xor-append (x ∷ a) [] c d h = absurd (omega arith)
-xor-append (x ∷ a) (y ∷ b) c d h = rw (xor-append a b c d (omega arith))
+pub xorBits-append : (a b c d : List Bool) → length a ≡ length b → xorBits (a ++ c) (b ++ d) ≡ xorBits a b ++ xorBits c d
+xorBits-append [] [] c d h = refl
+xorBits-append [] (y ∷ b) c d h = absurd (omega arith)
+xorBits-append (x ∷ a) [] c d h = absurd (omega arith)
+xorBits-append (x ∷ a) (y ∷ b) c d h = rw (xorBits-append a b c d (omega arith))
 
-pub invert-xor : (a : List Bool) → invert a ≡ xor (ones (length a)) a
+pub invert-xor : (a : List Bool) → invert a ≡ xorBits (ones (length a)) a
 invert-xor [] = refl
 invert-xor (x ∷ a) = ap (λ z. not x ∷ z) (invert-xor a)
 
@@ -136,7 +136,7 @@ pub parity-snoc : (a : List Bool) (b : Bool) → parity (a ++ b ∷ []) ≡ add 
 parity-snoc [] b = refl
 parity-snoc (x ∷ a) b = rw (parity-snoc a b) (add-left-comm x b (parity a))
 
-pub parity-xor : (a b : List Bool) → length a ≡ length b → parity (xor a b) ≡ add (parity a) (parity b)
+pub parity-xor : (a b : List Bool) → length a ≡ length b → parity (xorBits a b) ≡ add (parity a) (parity b)
 parity-xor [] [] h = refl
 parity-xor [] (y ∷ b) h = absurd (omega arith)
 parity-xor (x ∷ a) [] h = absurd (omega arith)
@@ -168,5 +168,5 @@ same-self [] = refl
 same-self (true ∷ a) = same-self a
 same-self (false ∷ a) = same-self a
 
-pub xor-four : (a b c d : List Bool) → xor (xor a b) (xor c d) ≡ xor (xor a c) (xor b d)
-xor-four a b c d = rw (xor-assoc a b (xor c d), xor-left-comm b c d, xor-assoc a c (xor b d))
+pub xorBits-four : (a b c d : List Bool) → xorBits (xorBits a b) (xorBits c d) ≡ xorBits (xorBits a c) (xorBits b d)
+xorBits-four a b c d = rw (xorBits-assoc a b (xorBits c d), xorBits-left-comm b c d, xorBits-assoc a c (xorBits b d))

@@ -20,11 +20,6 @@ abbrev pub Bytes : List ℕ → Type 0
 Bytes [] = Unit
 Bytes (b ∷ bs) = (b < 256) × Bytes bs
 
--- n bytes of a number, the low byte first
-abbrev pub littleEndian : ℕ → ℕ → List ℕ
-littleEndian zero x = []
-littleEndian (suc n) x = x % 256 ∷ littleEndian n (x / 256)
-
 -- the number whose bits these are
 abbrev pub digit : Bool → ℕ
 digit true = 1

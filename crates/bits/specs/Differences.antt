@@ -3,7 +3,7 @@ use mathlib.Core.Path.{_≡_}
 use Prim.Native.Nat.{ℕ, suc, _+_, _-_, _<_}
 use mathlib.Core.Bool.{Bool, true, false}
 use mathlib.Core.List.{List, [], _∷_}
-use Rattle.bits.specs.Strings.{xor}
+use Rattle.bits.specs.Strings.{xorBits}
 use Rattle.bits.specs.Bytes.{bitsOf}
 
 -- n in front where the bit is set
@@ -18,7 +18,7 @@ setFrom n (x ∷ a) = consIf x n (setFrom (suc n) a)
 
 -- the numbers of the bits in which two strings of one length differ, counted from 0
 abbrev pub differing : List Bool → List Bool → List ℕ
-differing a b = setFrom 0 (xor a b)
+differing a b = setFrom 0 (xorBits a b)
 
 -- two lines of one length differ in each bit that is unequal at the same place
 abbrev pub differingBits : List ℕ → List ℕ → List ℕ

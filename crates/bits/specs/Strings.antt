@@ -10,10 +10,10 @@ add true b = not b
 add false b = b
 
 -- the sum of two strings bit by bit, as long as the shorter one
-abbrev pub xor : List Bool → List Bool → List Bool
-xor [] b = []
-xor (x ∷ a) [] = []
-xor (x ∷ a) (y ∷ b) = add x y ∷ xor a b
+abbrev pub xorBits : List Bool → List Bool → List Bool
+xorBits [] b = []
+xorBits (x ∷ a) [] = []
+xorBits (x ∷ a) (y ∷ b) = add x y ∷ xorBits a b
 
 abbrev pub zeros : ℕ → List Bool
 zeros n = replicate n false

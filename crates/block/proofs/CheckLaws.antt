@@ -7,10 +7,10 @@ use mathlib.Core.List.{List, [], _∷_, _++_}
 use lib.Bits.{bitXor}
 use lib.Dec.{lit<}
 use lib.ListN.{length, length-append}
-use Rattle.bits.specs.Strings.{add, xor, zeros, parity}
+use Rattle.bits.specs.Strings.{add, xorBits, zeros, parity}
 use Rattle.bits.specs.Bytes.{lowBits, bitsOf, bytesFor, digit, pack}
 use Rattle.bits.proofs.Bytes.{length-lowBits, lowBits-append, lowBits-mod, lowBits-xor, lowBits-zero}
-use Rattle.bits.proofs.Strings.{xor-comm, xor-assoc, xor-zeros, length-xor}
+use Rattle.bits.proofs.Strings.{xorBits-comm, xorBits-assoc, xorBits-zeros, length-xor}
 use Rattle.bits.proofs.Packing.{length-pack}
 use Rattle.cyclic.specs.Check.{Parameters, invertIf, checkBits, method3, method4}
 use Rattle.registers.specs.Register.{tableOf}
@@ -45,11 +45,11 @@ register-check m o g e bs check {start} {register} began fits r k =
 
 -- ---- the matrix's check character
 
-pub sums-xor : (sum : ℕ) (bs : List ℕ) → lowBits 7 (xorAll sum bs) ≡ xor (lowBits 7 sum) (columnSums bs)
+pub sums-xor : (sum : ℕ) (bs : List ℕ) → lowBits 7 (xorAll sum bs) ≡ xorBits (lowBits 7 sum) (columnSums bs)
 unfolding xorAll columnSums
-sums-xor sum [] = sym (xor-comm (lowBits 7 sum) (zeros 7) ∙ xor-zeros 7 (lowBits 7 sum) (length-lowBits 7 sum))
+sums-xor sum [] = sym (xorBits-comm (lowBits 7 sum) (zeros 7) ∙ xorBits-zeros 7 (lowBits 7 sum) (length-lowBits 7 sum))
 sums-xor sum (b ∷ bs) =
-    sums-xor (bitXor sum b) bs ∙ ap (λ z. xor z (columnSums bs)) (lowBits-xor 7 sum b) ∙ xor-assoc (lowBits 7 sum) (lowBits 7 b) (columnSums bs)
+    sums-xor (bitXor sum b) bs ∙ ap (λ z. xorBits z (columnSums bs)) (lowBits-xor 7 sum b) ∙ xorBits-assoc (lowBits 7 sum) (lowBits 7 b) (columnSums bs)
 
 pub length-sums : (bs : List ℕ) → length (columnSums bs) ≡ 7
 unfolding columnSums
@@ -57,7 +57,7 @@ length-sums [] = refl
 length-sums (b ∷ bs) = length-xor (lowBits 7 b) (columnSums bs) (length-lowBits 7 b ∙ sym (length-sums bs)) ∙ length-sums bs
 
 pub sums-are : (bs : List ℕ) → columnSums bs ≡ lowBits 7 (xorAll 0 bs)
-sums-are bs = sym (sums-xor 0 bs ∙ ap (λ z. xor z (columnSums bs)) (lowBits-zero 7) ∙ xor-zeros 7 (columnSums bs) (length-sums bs))
+sums-are bs = sym (sums-xor 0 bs ∙ ap (λ z. xorBits z (columnSums bs)) (lowBits-zero 7) ∙ xorBits-zeros 7 (columnSums bs) (length-sums bs))
 
 one-digit : (d : Bool) → lowBits 1 (digit d) ≡ d ∷ []
 unfolding lowBits

@@ -72,7 +72,7 @@ writeValue writing.TooManyCounted = 0
 writeValue (writing.OutputShort needed) = needed
 
 abbrev pub ofWritten : BlockWritten → Numbers
-ofWritten (written.Written length) = line length
+ofWritten (written.Written bytes) = line bytes
 ofWritten (written.Refused r) = refused (writeNumber r) (writeValue r)
 
 -- the rules' answers in the same numbers

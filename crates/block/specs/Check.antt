@@ -3,7 +3,7 @@ use Prim.Native.Nat.{ℕ}
 use mathlib.Core.Bool.{Bool}
 use mathlib.Core.List.{List, [], _∷_, _++_}
 use lib.Bits.{bitXor}
-use Rattle.bits.specs.Strings.{add, xor, zeros, parity}
+use Rattle.bits.specs.Strings.{add, xorBits, zeros, parity}
 use Rattle.bits.specs.Bytes.{lowBits, bitsOf}
 use Rattle.cyclic.specs.Check.{checkBits, method3, method4}
 use Rattle.block.specs.declared.Method.{Method}
@@ -14,7 +14,7 @@ use Rattle.block.specs.Characters.{isOdd}
 -- of each of the seven low bits, its sum modulo 2 over the bytes: formula (3), 000 par. 5
 unfoldable pub columnSums : List ℕ → List Bool
 columnSums [] = zeros 7
-columnSums (b ∷ bs) = xor (lowBits 7 b) (columnSums bs)
+columnSums (b ∷ bs) = xorBits (lowBits 7 b) (columnSums bs)
 
 -- the check character of the matrix: those sums, and the parity bit as the link sets it (003 par. 1.2.2)
 unfoldable pub matrixCheck : Parity → List ℕ → List Bool

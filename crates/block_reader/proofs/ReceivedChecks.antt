@@ -11,10 +11,10 @@ use lib.ListN.{length, getD, take, drop, drop-of-length-le}
 use lib.Seq.{drop-cons, slice}
 use borrow.Author.Tests.{eqb-true, eqb-false}
 use Rattle.bits.specs.Strings.{same}
-use Rattle.bits.specs.Bytes.{lowBits, bitsOf, Bytes, littleEndian, pack}
+use Rattle.bits.specs.Bytes.{lowBits, bitsOf, Bytes, pack}
 use Rattle.bits.proofs.Strings.{same-sound, same-self}
 use Rattle.bits.proofs.Bytes.{bitsOf-one, bitsOf-injective}
-use Rattle.bits.proofs.Packing.{bitsOf-littleEndian, pack-lowBits}
+use Rattle.bits.proofs.Packing.{littleEndian, bitsOf-littleEndian, pack-lowBits}
 use Rattle.block.specs.declared.Method.the-variants as method
 use Rattle.block.specs.declared.Parity.{Parity}
 use Rattle.block.specs.Characters.{withParity}
@@ -48,9 +48,9 @@ module _ (fold : ℕ → List ℕ → ℕ) (fold-append : (a : ℕ) (xs ys : Lis
       e ∙ ap (λ a. fold a last) (t′ ∙ ap (λ a. fold a ts) (s′ ∙ ap (λ a. fold a is) h′))
       ∙ sym (fold-append start hs (is ++ (ts ++ last)) ∙ fold-append (fold start hs) is (ts ++ last) ∙ fold-append (fold (fold start hs) is) ts last)
 
-pub xor-last : (sum b : ℕ) → bitXor sum b ≡ xorAll sum (b ∷ [])
+pub xorBits-last : (sum b : ℕ) → bitXor sum b ≡ xorAll sum (b ∷ [])
 unfolding xorAll
-xor-last sum b = refl
+xorBits-last sum b = refl
 
 -- ---- a received check against a computed one
 

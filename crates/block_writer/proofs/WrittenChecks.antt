@@ -4,7 +4,7 @@ use Prim.Native.Nat.{ℕ, _%_}
 use native.Mathlib.Omega.{arith}
 use mathlib.Core.Bool.{true, false}
 use mathlib.Core.List.{List, [], _∷_, _++_, map}
-use Rattle.bits.specs.Strings.{add, xor, parity}
+use Rattle.bits.specs.Strings.{add, xorBits, parity}
 use Rattle.bits.specs.Bytes.{bitsOf, pack}
 use Rattle.bits.proofs.Packing.{pack-lowBits}
 use Rattle.cyclic.specs.Check.{Parameters, checkBits, method3, method4}
@@ -68,7 +68,7 @@ module _ (p : Parity) (s : Shape) (e : EndSign) (head body : List ℕ) {bytes : 
 columns-sent : (p : Parity) (bs : List ℕ) → columnSums (map (sent true p) bs) ≡ columnSums bs
 unfolding columnSums sent
 columns-sent p [] = refl
-columns-sent p (b ∷ bs) = ap₂ xor (withParity-low p b) (columns-sent p bs)
+columns-sent p (b ∷ bs) = ap₂ xorBits (withParity-low p b) (columns-sent p bs)
 
 matrix-packed : (p : Parity) (bs : List ℕ) → withParity p (xorAll 0 bs) ∷ [] ≡ pack (matrixCheck p (map (sent true p) bs))
 unfolding matrixCheck

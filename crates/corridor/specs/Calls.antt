@@ -50,13 +50,13 @@ unknownCode places out = called 1 (padded places []) out
 -- 0 for success, else the refusal's number
 abbrev pub blockNumber : block.Numbers → ℕ
 blockNumber (block.block shape end header text counted) = 0
-blockNumber (block.line length) = 0
+blockNumber (block.line bytes) = 0
 blockNumber (block.refused number value) = number
 
 -- what an accepted block holds; the length of a line; a refusal's value
 abbrev pub blockValues : block.Numbers → List ℕ
 blockValues (block.block shape end header text counted) = shape ∷ end ∷ header ∷ text ∷ counted ∷ []
-blockValues (block.line length) = length ∷ []
+blockValues (block.line bytes) = bytes ∷ []
 blockValues (block.refused number value) = value ∷ []
 
 abbrev pub blockCall : ℕ → block.Numbers → List ℕ → Call

@@ -6,8 +6,8 @@ use native.Mathlib.Omega.{arith}
 use mathlib.Core.Bool.{Bool, true, false}
 use mathlib.Core.List.{List, _++_, append-assoc}
 use lib.ListN.{length, length-append, length-replicate}
-use Rattle.bits.specs.Strings.{xor, zeros, ones}
-use Rattle.bits.proofs.Strings.{length-zeros, zeros-append, length-xor, xor-comm, xor-assoc, xor-zeros, xor-cancel, xor-injective, xor-append, invert-xor}
+use Rattle.bits.specs.Strings.{xorBits, zeros, ones}
+use Rattle.bits.proofs.Strings.{length-zeros, zeros-append, length-xor, xorBits-comm, xorBits-assoc, xorBits-zeros, xorBits-cancel, xorBits-injective, xorBits-append, invert-xor}
 use Rattle.division.specs.Division.{divide, remainder}
 use Rattle.division.proofs.Linear.{length-remainder, remainder-append, remainder-xor}
 use Rattle.division.proofs.Zeros.{divide-zeros, divide-injective, leading, remainder-full}
@@ -24,9 +24,9 @@ length-inversion : (i : Bool) (w : ℕ) → length (inversion i w) ≡ w
 length-inversion true w = length-replicate w true
 length-inversion false w = length-zeros w
 
-invertIf-xor : (i : Bool) (w : ℕ) (r : List Bool) → length r ≡ w → invertIf i r ≡ xor r (inversion i w)
-invertIf-xor true w r h = invert-xor r ∙ ap (λ n. xor (ones n) r) h ∙ xor-comm (ones w) r
-invertIf-xor false w r h = sym (xor-comm r (zeros w) ∙ xor-zeros w r h)
+invertIf-xor : (i : Bool) (w : ℕ) (r : List Bool) → length r ≡ w → invertIf i r ≡ xorBits r (inversion i w)
+invertIf-xor true w r h = invert-xor r ∙ ap (λ n. xorBits (ones n) r) h ∙ xorBits-comm (ones w) r
+invertIf-xor false w r h = sym (xorBits-comm r (zeros w) ∙ xorBits-zeros w r h)
 
 module _ (m : Parameters) (start-length : length (m .start) ≡ length (m .generator)) where
   abbrev p : List Bool
@@ -51,48 +51,48 @@ module _ (m : Parameters) (start-length : length (m .start) ≡ length (m .gener
       ∙ length-inversion (m .inverted) w
 
   -- a string is the rule's check where the content's formula and string sum to what inversion adds
-  check-iff : (c s : List Bool) → length s ≡ w → (s ≡ checkBits m c) ↔ (xor (formula m c) s ≡ inversion (m .inverted) w)
+  check-iff : (c s : List Bool) → length s ≡ w → (s ≡ checkBits m c) ↔ (xorBits (formula m c) s ≡ inversion (m .inverted) w)
   unfolding checkBits
   check-iff c s h =
       let r = formula m c in
       let v = inversion (m .inverted) w in
       let lr = length-formula c in
-      let e : checkBits m c ≡ xor r v = invertIf-xor (m .inverted) w r lr in (
-        λ q. ap (xor r) (q ∙ e) ∙ xor-cancel r v (length-inversion (m .inverted) w ∙ sym lr),
-        λ q. xor-injective r s (checkBits m c) (h ∙ sym lr) (length-check c ∙ sym lr)
-            (q ∙ sym (ap (xor r) e ∙ xor-cancel r v (length-inversion (m .inverted) w ∙ sym lr))),
+      let e : checkBits m c ≡ xorBits r v = invertIf-xor (m .inverted) w r lr in (
+        λ q. ap (xorBits r) (q ∙ e) ∙ xorBits-cancel r v (length-inversion (m .inverted) w ∙ sym lr),
+        λ q. xorBits-injective r s (checkBits m c) (h ∙ sym lr) (length-check c ∙ sym lr)
+            (q ∙ sym (ap (xorBits r) e ∙ xorBits-cancel r v (length-inversion (m .inverted) w ∙ sym lr))),
       )
 
   -- a string of w bits behind the content is added to its formula
-  formula-then : (c s : List Bool) → length s ≡ w → remainder p (xor (c ++ s) (moved (length c))) ≡ xor (formula m c) s
+  formula-then : (c s : List Bool) → length s ≡ w → remainder p (xorBits (c ++ s) (moved (length c))) ≡ xorBits (formula m c) s
   unfolding formula
   formula-then c s h =
       let k = length c in
       let a = c ++ zeros w in
       let b = zeros k ++ s in
       let l = moved k in
-      let e : c ++ s ≡ xor a b =
-      sym (xor-append c (zeros k) (zeros w) s (sym (length-zeros k)) ∙ ap₂ _++_ (xor-comm c (zeros k) ∙ xor-zeros k c refl) (xor-zeros w s h)) in
+      let e : c ++ s ≡ xorBits a b =
+      sym (xorBits-append c (zeros k) (zeros w) s (sym (length-zeros k)) ∙ ap₂ _++_ (xorBits-comm c (zeros k) ∙ xorBits-zeros k c refl) (xorBits-zeros w s h)) in
       let la : length a ≡ k + w = simp (length-append, length-replicate) refl in
       let lb : length b ≡ k + w = simp (length-append, length-replicate, h) refl in
       let ll : length l ≡ k + w = simp (length-append, length-replicate) (omega arith) in
-      ap (λ z. remainder p (xor z l)) e
-      ∙ ap (remainder p) (xor-assoc a b l ∙ ap (xor a) (xor-comm b l) ∙ sym (xor-assoc a l b))
-      ∙ remainder-xor p (xor a l) b (length-xor a l (la ∙ sym ll) ∙ ll ∙ sym lb)
-      ∙ ap (xor (remainder p (xor a l))) (leading p k s ∙ remainder-full p s h)
+      ap (λ z. remainder p (xorBits z l)) e
+      ∙ ap (remainder p) (xorBits-assoc a b l ∙ ap (xorBits a) (xorBits-comm b l) ∙ sym (xorBits-assoc a l b))
+      ∙ remainder-xor p (xorBits a l) b (length-xor a l (la ∙ sym ll) ∙ ll ∙ sym lb)
+      ∙ ap (xorBits (remainder p (xorBits a l))) (leading p k s ∙ remainder-full p s h)
 
   -- the formula of content and string together moves that sum up by w zeros
-  formula-both : (c s : List Bool) → length s ≡ w → formula m (c ++ s) ≡ divide p (xor (formula m c) s) (zeros w)
+  formula-both : (c s : List Bool) → length s ≡ w → formula m (c ++ s) ≡ divide p (xorBits (formula m c) s) (zeros w)
   unfolding formula
   formula-both c s h =
       let k = length c in
       let z = zeros w in
       let n : length (c ++ s) ≡ k + w = simp (length-append, h) refl in
-      ap (λ j. remainder p (xor ((c ++ s) ++ z) (m .start ++ zeros j))) n
-      ∙ ap (λ y. remainder p (xor ((c ++ s) ++ z) y)) (ap (λ y. m .start ++ y) (sym (zeros-append k w)) ∙ sym (append-assoc (m .start) (zeros k) z))
-      ∙ ap (remainder p) (xor-append (c ++ s) (moved k) z z (n ∙ simp (length-append, length-replicate) (omega arith)))
-      ∙ ap (λ y. remainder p (xor (c ++ s) (moved k) ++ y)) (xor-zeros w z (length-zeros w))
-      ∙ remainder-append p (xor (c ++ s) (moved k)) z
+      ap (λ j. remainder p (xorBits ((c ++ s) ++ z) (m .start ++ zeros j))) n
+      ∙ ap (λ y. remainder p (xorBits ((c ++ s) ++ z) y)) (ap (λ y. m .start ++ y) (sym (zeros-append k w)) ∙ sym (append-assoc (m .start) (zeros k) z))
+      ∙ ap (remainder p) (xorBits-append (c ++ s) (moved k) z z (n ∙ simp (length-append, length-replicate) (omega arith)))
+      ∙ ap (λ y. remainder p (xorBits (c ++ s) (moved k) ++ y)) (xorBits-zeros w z (length-zeros w))
+      ∙ remainder-append p (xorBits (c ++ s) (moved k)) z
       ∙ ap (λ y. divide p y z) (formula-then c s h)
 
   residue-divide : (i : Bool) → residueIf i w p ≡ divide p (inversion i w) (zeros w)
@@ -100,11 +100,11 @@ module _ (m : Parameters) (start-length : length (m .start) ≡ length (m .gener
   residue-divide false = sym (divide-zeros p w w)
 
   -- content and string leave the sum of that and of L's own remainder
-  remainder-both : (c s : List Bool) → length s ≡ w → xor (remainder p (moved (length c))) (remainder p (c ++ s)) ≡ xor (formula m c) s
+  remainder-both : (c s : List Bool) → length s ≡ w → xorBits (remainder p (moved (length c))) (remainder p (c ++ s)) ≡ xorBits (formula m c) s
   remainder-both c s h =
       let l = moved (length c) in
       sym (remainder-xor p l (c ++ s) (simp (length-append, length-replicate, h) (omega arith)))
-      ∙ ap (remainder p) (xor-comm l (c ++ s)) ∙ formula-then c s h
+      ∙ ap (remainder p) (xorBits-comm l (c ++ s)) ∙ formula-then c s h
 
 pub receiver : ReceiverLaw
 receiver w m o c s h =
@@ -113,7 +113,7 @@ receiver w m o c s h =
     let k : length s ≡ length (m .generator) = h ∙ sym wide in
     let i = m .inverted in
     let p = m .generator in
-    let sum = xor (formula m c) s in
+    let sum = xorBits (formula m c) s in
     let target = inversion i (length p) in
     let ls : length sum ≡ length p = length-xor (formula m c) s (length-formula m q c ∙ sym k) ∙ k in
     let e = check-iff m q c s k in
@@ -135,13 +135,13 @@ one-remainder w m o c d s t n f h =
     let es = check-iff m q c s j in
     let et = check-iff m q d t k in
     let same-l : remainder p (m .start ++ zeros (length d)) ≡ u = ap (λ z. remainder p (m .start ++ zeros z)) (sym n) in
-    let left : xor u (remainder p (c ++ s)) ≡ inversion (m .inverted) (length p) = remainder-both m q c s j ∙ es .0 f in
-    let right : xor u (remainder p (d ++ t)) ≡ xor (formula m d) t = ap (λ z. xor z (remainder p (d ++ t))) (sym same-l) ∙ remainder-both m q d t k in (
-      λ g. xor-injective u (remainder p (c ++ s)) (remainder p (d ++ t))
+    let left : xorBits u (remainder p (c ++ s)) ≡ inversion (m .inverted) (length p) = remainder-both m q c s j ∙ es .0 f in
+    let right : xorBits u (remainder p (d ++ t)) ≡ xorBits (formula m d) t = ap (λ z. xorBits z (remainder p (d ++ t))) (sym same-l) ∙ remainder-both m q d t k in (
+      λ g. xorBits-injective u (remainder p (c ++ s)) (remainder p (d ++ t))
           (length-remainder p (c ++ s) ∙ sym (length-remainder p (m .start ++ zeros (length c))))
           (length-remainder p (d ++ t) ∙ sym (length-remainder p (m .start ++ zeros (length c))))
           (left ∙ sym (right ∙ et .0 g)),
-      λ g. et .1 (sym right ∙ ap (xor u) (sym g) ∙ left),
+      λ g. et .1 (sym right ∙ ap (xorBits u) (sym g) ∙ left),
     )
 
 pub difference-divides : CheckedDifference

@@ -5,9 +5,9 @@ use native.Mathlib.Omega.{arith}
 use mathlib.Core.Bool.{Bool}
 use mathlib.Core.List.{List, _++_}
 use lib.ListN.{length, length-append, length-replicate}
-use Rattle.bits.specs.Strings.{xor, zeros, ones}
+use Rattle.bits.specs.Strings.{xorBits, zeros, ones}
 use Rattle.bits.specs.Bytes.{lowBits}
-use Rattle.bits.proofs.Strings.{xor-comm, xor-zeros, zeros-append}
+use Rattle.bits.proofs.Strings.{xorBits-comm, xorBits-zeros, zeros-append}
 use Rattle.division.specs.Division.{remainder}
 use Rattle.division.specs.Generators.{ibm16}
 use Rattle.division.proofs.Generators.{ccitt16-generator, ibm16-generator, ieee32-generator, receiver-16, receiver-32}
@@ -56,7 +56,7 @@ method4-formula c =
     let n = length c in
     let a = c ++ zeros 16 in
     let l : length a ≡ 16 + n = simp (length-append, length-replicate) (omega arith) in
-    ap (remainder ibm16) (xor-comm a (zeros 16 ++ zeros n) ∙ ap (λ z. xor z a) (zeros-append 16 n) ∙ xor-zeros (16 + n) a l)
+    ap (remainder ibm16) (xorBits-comm a (zeros 16 ++ zeros n) ∙ ap (λ z. xorBits z a) (zeros-append 16 n) ∙ xorBits-zeros (16 + n) a l)
 
 -- ---- a register that began at the method's start holds its formula
 
@@ -69,7 +69,7 @@ check-of w m o pos c start after check began entered ended =
     ended
     ∙ ap (invertIf (m .inverted))
     (entered ∙ ap (λ r. enter (m .generator) r c) began ∙ enter-is-formula w (m .generator) (m .start) c pos wide (o .start-length)
-    ∙ ap (λ n. remainder (m .generator) (xor (c ++ zeros n) (m .start ++ zeros (length c)))) (sym wide))
+    ∙ ap (λ n. remainder (m .generator) (xorBits (c ++ zeros n) (m .start ++ zeros (length c)))) (sym wide))
 
 -- a new register holds the method's start
 pub began : {m : Parameters} {register width polynomial start limit : ℕ} → Constants m register width polynomial start limit → lowBits width register ≡ m .start

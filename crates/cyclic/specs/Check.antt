@@ -4,7 +4,7 @@ use Prim.Native.Nat.{ℕ}
 use mathlib.Core.Bool.{Bool, true, false}
 use mathlib.Core.List.{List, _++_}
 use lib.ListN.{length}
-use Rattle.bits.specs.Strings.{xor, zeros, ones, invert}
+use Rattle.bits.specs.Strings.{xorBits, zeros, ones, invert}
 use Rattle.bits.specs.Bytes.{lowBits}
 use Rattle.division.specs.Division.{remainder}
 use Rattle.division.specs.Generators.{ccitt16, ibm16, ieee32}
@@ -19,7 +19,7 @@ pub record Parameters : Type 0 where
 
 -- formulas (4), (8), (10), (14), (16), (19): the remainder of x^w · C + x^k · L, where C has k bits
 unfoldable pub formula : Parameters → List Bool → List Bool
-formula m c = remainder (m .generator) (xor (c ++ zeros (length (m .generator))) (m .start ++ zeros (length c)))
+formula m c = remainder (m .generator) (xorBits (c ++ zeros (length (m .generator))) (m .start ++ zeros (length c)))
 
 abbrev pub invertIf : Bool → List Bool → List Bool
 invertIf true r = invert r

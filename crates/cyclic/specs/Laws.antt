@@ -5,7 +5,7 @@ use Prim.Native.Nat.{ℕ}
 use mathlib.Core.Bool.{Bool, true, false}
 use mathlib.Core.List.{List, _++_}
 use lib.ListN.{length}
-use Rattle.bits.specs.Strings.{xor, zeros, ones}
+use Rattle.bits.specs.Strings.{xorBits, zeros, ones}
 use Rattle.division.specs.Division.{remainder, Divides}
 use Rattle.division.specs.Generators.{ibm16, receiver16, receiver32}
 use Rattle.division.specs.Laws.{Generator}
@@ -55,4 +55,4 @@ OneRemainder =
 abbrev pub CheckedDifference : Type 0
 CheckedDifference =
     (w : ℕ) (m : Parameters) → OfWidth w m → (c d : List Bool) → length c ≡ length d
-    → Divides (m .generator) (xor (checkedBits m c) (checkedBits m d))
+    → Divides (m .generator) (xorBits (checkedBits m c) (checkedBits m d))

@@ -6,10 +6,10 @@ use native.Mathlib.Omega.{arith}
 use mathlib.Core.Bool.{Bool, true, false, true≢false}
 use mathlib.Core.List.{List, [], _∷_, _++_, append-cancel-left}
 use lib.ListN.{length, length-append, length-replicate}
-use Rattle.bits.specs.Strings.{add, xor, zeros, parity}
+use Rattle.bits.specs.Strings.{add, xorBits, zeros, parity}
 use Rattle.bits.specs.Bytes.{digit}
 use Rattle.bits.specs.Differences.{differing}
-use Rattle.bits.proofs.Strings.{length-zeros, length-xor, xor-zeros, xor-self, zeros-append, equal-of-xor, add-comm, add-assoc, add-left-comm, parity-snoc, parity-xor, parity-zeros, weight-parity}
+use Rattle.bits.proofs.Strings.{length-zeros, length-xor, xorBits-zeros, xorBits-self, zeros-append, equal-of-xor, add-comm, add-assoc, add-left-comm, parity-snoc, parity-xor, parity-zeros, weight-parity}
 use Rattle.bits.proofs.Differences.{Window, burst-window, burst-widen, two-differing, one-differing, length-differing, equal-of-differing}
 use Rattle.division.specs.Division.{step, divide, remainder, Divides, power, PowerIsOne, constantTerm}
 use Rattle.division.specs.Laws.{Undetected, DifferenceDivides, DetectsBursts, DetectsOdd, TwoBits, DetectsTwo}
@@ -20,12 +20,12 @@ use Rattle.division.proofs.Zeros.{leading, trailing, remainder-short}
 
 pub difference : DifferenceDivides
 difference p a b h = (
-  λ e. remainder-xor p a b h ∙ ap (λ z. xor z (remainder p b)) e ∙ xor-self (remainder p b) ∙ ap zeros (length-remainder p b),
+  λ e. remainder-xor p a b h ∙ ap (λ z. xorBits z (remainder p b)) e ∙ xorBits-self (remainder p b) ∙ ap zeros (length-remainder p b),
   λ e. equal-of-xor (remainder p a) (remainder p b) (length-remainder p a ∙ sym (length-remainder p b))
       (sym (remainder-xor p a b h) ∙ e ∙ ap zeros (sym (length-remainder p b))),
 )
 
-divides : (p a b : List Bool) → Undetected p a b → Divides p (xor a b)
+divides : (p a b : List Bool) → Undetected p a b → Divides p (xorBits a b)
 divides p a b u = difference p a b (u .one-length) .0 (u .one-remainder)
 
 -- ---- bursts
@@ -38,11 +38,11 @@ divides-window p b i j l h e =
     (sym (remainder-short p b h) ∙ trailing p b j l .0 (sym (leading p i (b ++ zeros j)) ∙ e)
     ∙ ap zeros (sym s) ∙ sym (zeros-append (length p - length b) (length b)))
 
-window-equal : (p a b : List Bool) → constantTerm p ≡ true → Undetected p a b → Window (length p) (xor a b) → a ≡ b
+window-equal : (p a b : List Bool) → constantTerm p ≡ true → Undetected p a b → Window (length p) (xorBits a b) → a ≡ b
 window-equal p a b l u w =
     let e = w .bits in
     let z : e ≡ zeros (length e) = divides-window p e (w .before) (w .after) l (w .small) (sym (ap (remainder p) (w .whole)) ∙ divides p a b u) in
-    let n : length (xor a b) ≡ w .before + (length e + w .after) = ap length (w .whole) ∙ simp (length-append, length-replicate) refl in
+    let n : length (xorBits a b) ≡ w .before + (length e + w .after) = ap length (w .whole) ∙ simp (length-append, length-replicate) refl in
     equal-of-xor a b (u .one-length)
     (w .whole ∙ ap (λ v. zeros (w .before) ++ (v ++ zeros (w .after))) z
     ∙ ap (λ v. zeros (w .before) ++ v) (zeros-append (length e) (w .after)) ∙ zeros-append (w .before) (length e + w .after)
@@ -74,20 +74,20 @@ parity-remainder p a o =
 
 pub even : DetectsOdd
 even p a b o u =
-    weight-parity (xor a b)
-    ∙ ap digit (sym (parity-remainder p (xor a b) o) ∙ ap parity (divides p a b u) ∙ parity-zeros (length p))
+    weight-parity (xorBits a b)
+    ∙ ap digit (sym (parity-remainder p (xorBits a b) o) ∙ ap parity (divides p a b u) ∙ parity-zeros (length p))
 
 -- ---- two bits
 
-pair-sum : (k : ℕ) → true ∷ (zeros k ++ true ∷ []) ≡ xor (true ∷ zeros (suc k)) (zeros (suc k) ++ true ∷ [])
-pair-sum k = ap (λ z. true ∷ z) (sym (xor-zeros (suc k) (zeros k ++ true ∷ []) (simp (length-append, length-replicate) (omega arith))))
+pair-sum : (k : ℕ) → true ∷ (zeros k ++ true ∷ []) ≡ xorBits (true ∷ zeros (suc k)) (zeros (suc k) ++ true ∷ [])
+pair-sum k = ap (λ z. true ∷ z) (sym (xorBits-zeros (suc k) (zeros k ++ true ∷ []) (simp (length-append, length-replicate) (omega arith))))
 
-remainder-pair : (p : List Bool) (k : ℕ) → remainder p (true ∷ (zeros k ++ true ∷ [])) ≡ xor (power p (suc k)) (power p 0)
+remainder-pair : (p : List Bool) (k : ℕ) → remainder p (true ∷ (zeros k ++ true ∷ [])) ≡ xorBits (power p (suc k)) (power p 0)
 unfolding power
 remainder-pair p k =
     ap (remainder p) (pair-sum k)
     ∙ remainder-xor p (true ∷ zeros (suc k)) (zeros (suc k) ++ true ∷ []) (simp (length-append, length-replicate) (omega arith))
-    ∙ ap (xor (power p (suc k))) (leading p (suc k) (true ∷ []))
+    ∙ ap (xorBits (power p (suc k))) (leading p (suc k) (true ∷ []))
 
 length-power : (p : List Bool) (d : ℕ) → length (power p d) ≡ length p
 unfolding power
@@ -99,7 +99,7 @@ divides-pair p i k j l =
       λ e. equal-of-xor (power p (suc k)) (power p 0) (length-power p (suc k) ∙ sym (length-power p 0))
           (sym (remainder-pair p k) ∙ trailing p pair j l .0 (sym (leading p i (pair ++ zeros j)) ∙ e) ∙ ap zeros (sym (length-power p 0))),
       λ e. leading p i (pair ++ zeros j)
-          ∙ trailing p pair j l .1 (remainder-pair p k ∙ ap (λ z. xor z (power p 0)) e ∙ xor-self (power p 0) ∙ ap zeros (length-power p 0)),
+          ∙ trailing p pair j l .1 (remainder-pair p k ∙ ap (λ z. xorBits z (power p 0)) e ∙ xorBits-self (power p 0) ∙ ap zeros (length-power p 0)),
     )
 
 pub two-bits : TwoBits
@@ -117,7 +117,7 @@ two-bits p a b l h i j e =
 pub three-bits : DetectsTwo
 three-bits p a b l w far u h = go (differing a b) refl
   where
-    one : Window 1 (xor a b) → a ≡ b
+    one : Window 1 (xorBits a b) → a ≡ b
     one v =
         window-equal p a b l u
         (record { before = v .before; after = v .after; bits = v .bits; small = omega (arith, v .small); whole = v .whole })

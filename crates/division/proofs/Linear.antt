@@ -4,8 +4,8 @@ use native.Mathlib.Omega.{arith}
 use mathlib.Core.Bool.{Bool, true, false}
 use mathlib.Core.List.{List, [], _∷_, _++_}
 use lib.ListN.{length, length-append}
-use Rattle.bits.specs.Strings.{add, xor, zeros}
-use Rattle.bits.proofs.Strings.{length-zeros, length-xor, xor-nil, xor-append, xor-assoc, xor-left-comm, xor-cancel, xor-zeros}
+use Rattle.bits.specs.Strings.{add, xorBits, zeros}
+use Rattle.bits.proofs.Strings.{length-zeros, length-xor, xorBits-nil, xorBits-append, xorBits-assoc, xorBits-left-comm, xorBits-cancel, xorBits-zeros}
 use Rattle.division.specs.Division.{step, divide, remainder}
 use Rattle.division.specs.Laws.{RemainderIsLinear}
 
@@ -16,17 +16,17 @@ length-step p [] b h = h
 length-step p (true ∷ r) b h = length-xor p (r ++ b ∷ []) (omega (arith, length-append r (b ∷ []))) ∙ omega (arith, length-append r (b ∷ []))
 length-step p (false ∷ r) b h = omega (arith, length-append r (b ∷ []))
 
-pub step-linear : (p r s : List Bool) (b c : Bool) → length r ≡ length p → length s ≡ length p → step p (xor r s) (add b c) ≡ xor (step p r b) (step p s c)
+pub step-linear : (p r s : List Bool) (b c : Bool) → length r ≡ length p → length s ≡ length p → step p (xorBits r s) (add b c) ≡ xorBits (step p r b) (step p s c)
 step-linear p [] s b c h k = refl
-step-linear p (t ∷ r) [] b c h k = sym (xor-nil (step p (t ∷ r) b))
-step-linear p (false ∷ r) (false ∷ s) b c h k = sym (xor-append r s (b ∷ []) (c ∷ []) (omega arith))
+step-linear p (t ∷ r) [] b c h k = sym (xorBits-nil (step p (t ∷ r) b))
+step-linear p (false ∷ r) (false ∷ s) b c h k = sym (xorBits-append r s (b ∷ []) (c ∷ []) (omega arith))
 step-linear p (true ∷ r) (false ∷ s) b c h k =
-    rw (← xor-append r s (b ∷ []) (c ∷ []) (omega arith), ← xor-assoc p (r ++ b ∷ []) (s ++ c ∷ []))
+    rw (← xorBits-append r s (b ∷ []) (c ∷ []) (omega arith), ← xorBits-assoc p (r ++ b ∷ []) (s ++ c ∷ []))
 step-linear p (false ∷ r) (true ∷ s) b c h k =
-    rw (← xor-append r s (b ∷ []) (c ∷ []) (omega arith)) (xor-left-comm p (r ++ b ∷ []) (s ++ c ∷ []))
+    rw (← xorBits-append r s (b ∷ []) (c ∷ []) (omega arith)) (xorBits-left-comm p (r ++ b ∷ []) (s ++ c ∷ []))
 step-linear p (true ∷ r) (true ∷ s) b c h k =
-    rw (← xor-append r s (b ∷ []) (c ∷ []) (omega arith), xor-assoc p (r ++ b ∷ []) (xor p (s ++ c ∷ [])), xor-left-comm (r ++ b ∷ []) p (s ++ c ∷ []))
-    (sym (xor-cancel p (xor (r ++ b ∷ []) (s ++ c ∷ [])) (length-xor (r ++ b ∷ []) (s ++ c ∷ []) (simp length-append (omega arith)) ∙ simp length-append (omega arith))))
+    rw (← xorBits-append r s (b ∷ []) (c ∷ []) (omega arith), xorBits-assoc p (r ++ b ∷ []) (xorBits p (s ++ c ∷ [])), xorBits-left-comm (r ++ b ∷ []) p (s ++ c ∷ []))
+    (sym (xorBits-cancel p (xorBits (r ++ b ∷ []) (s ++ c ∷ [])) (length-xor (r ++ b ∷ []) (s ++ c ∷ []) (simp length-append (omega arith)) ∙ simp length-append (omega arith))))
 
 -- ---- divide
 
@@ -41,13 +41,13 @@ divide-append p r [] b = refl
 divide-append p r (x ∷ a) b = divide-append p (step p r x) a b
 
 pub divide-linear : (p r s a b : List Bool) → length r ≡ length p → length s ≡ length p → length a ≡ length b
-    → divide p (xor r s) (xor a b) ≡ xor (divide p r a) (divide p s b)
+    → divide p (xorBits r s) (xorBits a b) ≡ xorBits (divide p r a) (divide p s b)
 unfolding divide
 divide-linear p r s [] [] h k l = refl
 divide-linear p r s [] (y ∷ b) h k l = absurd (omega arith)
 divide-linear p r s (x ∷ a) [] h k l = absurd (omega arith)
 divide-linear p r s (x ∷ a) (y ∷ b) h k l =
-    ap (λ z. divide p z (xor a b)) (step-linear p r s x y h k)
+    ap (λ z. divide p z (xorBits a b)) (step-linear p r s x y h k)
     ∙ divide-linear p (step p r x) (step p s y) a b (length-step p r x h) (length-step p s y k) (omega arith)
 
 -- ---- remainder
@@ -64,5 +64,5 @@ pub remainder-xor : RemainderIsLinear
 unfolding remainder
 remainder-xor p a b l =
     let z = zeros (length p) in
-    ap (λ r. divide p r (xor a b)) (sym (xor-zeros (length p) z (length-zeros (length p))))
+    ap (λ r. divide p r (xorBits a b)) (sym (xorBits-zeros (length p) z (length-zeros (length p))))
     ∙ divide-linear p z z a b (length-zeros (length p)) (length-zeros (length p)) l

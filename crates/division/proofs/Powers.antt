@@ -6,7 +6,7 @@ use native.Mathlib.Omega.{arith}
 use mathlib.Core.Bool.{Bool, true, false}
 use mathlib.Core.List.{List, [], _∷_, _++_, append-assoc, append-nil}
 use lib.ListN.{length, length-append}
-use Rattle.bits.specs.Strings.{xor, zeros}
+use Rattle.bits.specs.Strings.{xorBits, zeros}
 use Rattle.bits.proofs.Strings.{length-zeros, zeros-append}
 use Rattle.division.specs.Division.{step, divide, remainder, power, PowerIsOne}
 use Rattle.division.proofs.Linear.{length-step, length-remainder, remainder-append, remainder-xor}
@@ -26,7 +26,7 @@ spread-append : (a b : List Bool) → spread (a ++ b) ≡ spread a ++ spread b
 spread-append [] b = refl
 spread-append (x ∷ a) b = rw (spread-append a b)
 
-spread-xor : (a b : List Bool) → spread (xor a b) ≡ xor (spread a) (spread b)
+spread-xor : (a b : List Bool) → spread (xorBits a b) ≡ xorBits (spread a) (spread b)
 spread-xor [] b = refl
 spread-xor (x ∷ a) [] = refl
 spread-xor (x ∷ a) (y ∷ b) = rw (spread-xor a b)
@@ -78,7 +78,7 @@ module _ (p : List Bool) (sq : Squares p) where
       let w2 : length (spread (r ++ b ∷ [])) ≡ length p + length p = omega (arith, length-spread (r ++ b ∷ [])) in
       ap (remainder p) (spread-xor p (r ++ b ∷ []))
       ∙ remainder-xor p (spread p) (spread (r ++ b ∷ [])) (omega (arith, length-spread p))
-      ∙ ap (λ z. xor z (remainder p (spread (r ++ b ∷ [])))) (sq ∙ ap (power p) (sym w2))
+      ∙ ap (λ z. xorBits z (remainder p (spread (r ++ b ∷ [])))) (sq ∙ ap (power p) (sym w2))
       ∙ sym (remainder-lead p (spread (r ++ b ∷ []))) ∙ sym (leading p 1 (true ∷ spread (r ++ b ∷ [])))
   square-step (false ∷ r) b h = sym (leading p 2 (spread (r ++ b ∷ [])))
 

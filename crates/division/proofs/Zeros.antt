@@ -5,8 +5,8 @@ use native.Mathlib.Omega.{arith}
 use mathlib.Core.Bool.{Bool, true, false, true≢false}
 use mathlib.Core.List.{List, [], _∷_, _++_, append-assoc, append-cancel-right, append-nil}
 use lib.ListN.{length}
-use Rattle.bits.specs.Strings.{add, xor, zeros}
-use Rattle.bits.proofs.Strings.{zeros-snoc, zeros-append, length-zeros, length-xor, xor-zeros, xor-self, equal-of-xor}
+use Rattle.bits.specs.Strings.{add, xorBits, zeros}
+use Rattle.bits.proofs.Strings.{zeros-snoc, zeros-append, length-zeros, length-xor, xorBits-zeros, xorBits-self, equal-of-xor}
 use Rattle.division.specs.Division.{step, divide, remainder, Divides, constantTerm}
 use Rattle.division.specs.Laws.{LeadingZeros, TrailingZeros}
 use Rattle.division.proofs.Linear.{length-step, divide-append, length-divide, divide-linear, length-remainder, remainder-append}
@@ -32,7 +32,7 @@ leading p n a = divide-append p (zeros (length p)) (zeros n) a ∙ ap (λ z. div
 
 -- ---- trailing zeros
 
-last-xor : (a r : List Bool) (b : Bool) → length a ≡ suc (length r) → constantTerm (xor a (r ++ b ∷ [])) ≡ add (constantTerm a) b
+last-xor : (a r : List Bool) (b : Bool) → length a ≡ suc (length r) → constantTerm (xorBits a (r ++ b ∷ [])) ≡ add (constantTerm a) b
 last-xor [] r b h = absurd (omega arith)
 last-xor (x ∷ []) [] b h = refl
 last-xor (x ∷ y ∷ a) [] b h = absurd (omega arith)
@@ -64,9 +64,9 @@ divide-injective p r s n l h k e =
     let z = zeros n in
     let d = divide p s z in
     equal-of-xor r s (h ∙ sym k)
-    (divide-kernel p (xor r s) n l (length-xor r s (h ∙ sym k) ∙ k)
-    (ap (divide p (xor r s)) (sym (xor-zeros n z (length-zeros n))) ∙ divide-linear p r s z z h k refl ∙ ap (λ v. xor v d) e
-    ∙ xor-self d ∙ ap zeros (length-divide p s z k)) ∙ ap zeros (sym k))
+    (divide-kernel p (xorBits r s) n l (length-xor r s (h ∙ sym k) ∙ k)
+    (ap (divide p (xorBits r s)) (sym (xorBits-zeros n z (length-zeros n))) ∙ divide-linear p r s z z h k refl ∙ ap (λ v. xorBits v d) e
+    ∙ xorBits-self d ∙ ap zeros (length-divide p s z k)) ∙ ap zeros (sym k))
 
 pub trailing : TrailingZeros
 trailing p a n l = (

@@ -5,13 +5,13 @@ use Prim.Native.Nat.{ℕ}
 use mathlib.Core.Bool.{Bool, true, false}
 use mathlib.Core.List.{List, [], _∷_, _++_, tail}
 use lib.ListN.{length}
-use Rattle.bits.specs.Strings.{xor, zeros}
+use Rattle.bits.specs.Strings.{xorBits, zeros}
 
 -- one step of long division: the register moves up a power and takes in the next bit; where the bit that leaves it is set,
 -- the divisor is subtracted, which modulo 2 is to add it
 abbrev pub step : List Bool → List Bool → Bool → List Bool
 step p [] b = []
-step p (true ∷ r) b = xor p (r ++ b ∷ [])
+step p (true ∷ r) b = xorBits p (r ++ b ∷ [])
 step p (false ∷ r) b = r ++ b ∷ []
 
 -- the register after all the bits
@@ -41,13 +41,13 @@ scale false b = zeros (length b)
 
 abbrev pub times : List Bool → List Bool → List Bool
 times [] b = zeros (length (tail b))
-times (t ∷ a) b = xor (scale t b ++ zeros (length a)) (false ∷ times a b)
+times (t ∷ a) b = xorBits (scale t b ++ zeros (length a)) (false ∷ times a b)
 
 -- bits = q · (x^w + p) + r, with r of w bits; leading zeros bring both sides to one length
 pub record Divided (p bits q r : List Bool) : Type 0 where
   pub quotient-length : length q ≡ length bits
   pub remainder-length : length r ≡ length p
-  pub equation : zeros (length p) ++ bits ≡ xor (times q (true ∷ p)) (zeros (length bits) ++ r)
+  pub equation : zeros (length p) ++ bits ≡ xorBits (times q (true ∷ p)) (zeros (length bits) ++ r)
 
 -- the coefficient of x^0
 abbrev pub constantTerm : List Bool → Bool

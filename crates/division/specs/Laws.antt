@@ -5,7 +5,7 @@ use Prim.Native.Nat.{ℕ, _-_, _%_, _≤_, _<_}
 use mathlib.Core.Bool.{Bool, true}
 use mathlib.Core.List.{List, [], _∷_, _++_}
 use lib.ListN.{length}
-use Rattle.bits.specs.Strings.{xor, zeros, ones, weight, parity}
+use Rattle.bits.specs.Strings.{xorBits, zeros, ones, weight, parity}
 use Rattle.bits.specs.Differences.{differing, Burst}
 use Rattle.division.specs.Division.{remainder, Divides, PowerIsOne, Divided, constantTerm}
 use Rattle.division.specs.Generators.{ieee32, ccitt16, receiver16, receiver32, printed32}
@@ -22,7 +22,7 @@ DivisionIsUnique = (p bits q r q′ r′ : List Bool) → Divided p bits q r →
 
 -- the remainder of a sum is the sum of the remainders
 abbrev pub RemainderIsLinear : Type 0
-RemainderIsLinear = (p a b : List Bool) → length a ≡ length b → remainder p (xor a b) ≡ xor (remainder p a) (remainder p b)
+RemainderIsLinear = (p a b : List Bool) → length a ≡ length b → remainder p (xorBits a b) ≡ xorBits (remainder p a) (remainder p b)
 
 -- zeros before a string do not change its remainder
 abbrev pub LeadingZeros : Type 0
@@ -41,7 +41,7 @@ pub record Undetected (p a b : List Bool) : Type 0 where
 
 -- those whose difference the divisor divides
 abbrev pub DifferenceDivides : Type 0
-DifferenceDivides = (p a b : List Bool) → length a ≡ length b → (remainder p a ≡ remainder p b) ↔ Divides p (xor a b)
+DifferenceDivides = (p a b : List Bool) → length a ≡ length b → (remainder p a ≡ remainder p b) ↔ Divides p (xorBits a b)
 
 -- no burst within the width
 abbrev pub DetectsBursts : Type 0
@@ -53,7 +53,7 @@ EvenTerms p = parity p ≡ true
 
 -- then no odd number of bits
 abbrev pub DetectsOdd : Type 0
-DetectsOdd = (p a b : List Bool) → EvenTerms p → Undetected p a b → weight (xor a b) % 2 ≡ 0
+DetectsOdd = (p a b : List Bool) → EvenTerms p → Undetected p a b → weight (xorBits a b) % 2 ≡ 0
 
 -- two bits exactly where x to the power of their distance is 1
 abbrev pub TwoBits : Type 0
@@ -72,7 +72,7 @@ OrderAbove p limit = (d : ℕ) → 0 < d → d ≤ limit → PowerIsOne p d → 
 -- where that holds of every distance within the string, at least three bits
 abbrev pub DetectsTwo : Type 0
 DetectsTwo =
-    (p a b : List Bool) → constantTerm p ≡ true → 0 < length p → OrderAbove p (length a - 1) → Undetected p a b → weight (xor a b) ≤ 2 → a ≡ b
+    (p a b : List Bool) → constantTerm p ≡ true → 0 < length p → OrderAbove p (length a - 1) → Undetected p a b → weight (xorBits a b) ≤ 2 → a ≡ b
 
 -- ---- the generators of the standard
 

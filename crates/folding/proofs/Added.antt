@@ -7,9 +7,9 @@ use mathlib.Core.Bool.{Bool}
 use mathlib.Core.List.{List, [], _∷_, _++_, append-assoc, append-nil}
 use lib.ListN.{length, take, drop, length-append, take-append-drop}
 use lib.Seq.{length-take-le}
-use Rattle.bits.specs.Strings.{add, xor, zeros}
+use Rattle.bits.specs.Strings.{add, xorBits, zeros}
 use Rattle.bits.specs.Bytes.{bitsOf}
-use Rattle.bits.proofs.Strings.{length-zeros, xor-zeros, xor-append, zeros-append}
+use Rattle.bits.proofs.Strings.{length-zeros, xorBits-zeros, xorBits-append, zeros-append}
 use Rattle.bits.proofs.Bytes.{length-bitsOf, bitsOf-append}
 use Rattle.registers.specs.Register.{enter, entered}
 use Rattle.folding.specs.Fold.{added}
@@ -17,54 +17,54 @@ use Rattle.registers.proofs.Entered.{begins}
 use Rattle.folding.proofs.Turn.{pendingBits}
 
 -- a sum goes as far as the shorter string
-xor-short : (a b m : List Bool) → length m ≤ length a → xor (a ++ b) m ≡ xor a m
-xor-short [] b [] h = none b
+xorBits-short : (a b m : List Bool) → length m ≤ length a → xorBits (a ++ b) m ≡ xorBits a m
+xorBits-short [] b [] h = none b
   where
-    none : (c : List Bool) → xor c [] ≡ []
+    none : (c : List Bool) → xorBits c [] ≡ []
     none [] = refl
     none (x ∷ c) = refl
-xor-short [] b (y ∷ m) h = absurd (omega arith)
-xor-short (x ∷ a) b [] h = refl
-xor-short (x ∷ a) b (y ∷ m) h = ap (λ (s : List Bool). add x y ∷ s) (xor-short a b m (omega arith))
+xorBits-short [] b (y ∷ m) h = absurd (omega arith)
+xorBits-short (x ∷ a) b [] h = refl
+xorBits-short (x ∷ a) b (y ∷ m) h = ap (λ (s : List Bool). add x y ∷ s) (xorBits-short a b m (omega arith))
 
 pub added-none : (k : ℕ) (m : List Bool) → added (zeros k) m ≡ m
 unfolding added
 added-none k m =
-    ap (λ z. xor z m) (zeros-append k (length m) ∙ ap zeros (add-comm k (length m)) ∙ sym (zeros-append (length m) k))
-    ∙ xor-short (zeros (length m)) (zeros k) m (omega (arith, length-zeros (length m)))
-    ∙ xor-zeros (length m) m refl
+    ap (λ z. xorBits z m) (zeros-append k (length m) ∙ ap zeros (add-comm k (length m)) ∙ sym (zeros-append (length m) k))
+    ∙ xorBits-short (zeros (length m)) (zeros k) m (omega (arith, length-zeros (length m)))
+    ∙ xorBits-zeros (length m) m refl
 
 -- what is pending beyond the bits does not count, nor do zeros
 pub added-short : (a b m : List Bool) → length m ≤ length a → added (a ++ b) m ≡ added a m
 unfolding added
 added-short a b m h =
-    ap (λ z. xor z m) (append-assoc a b (zeros (length m))) ∙ xor-short a (b ++ zeros (length m)) m h
-    ∙ sym (xor-short a (zeros (length m)) m h)
+    ap (λ z. xorBits z m) (append-assoc a b (zeros (length m))) ∙ xorBits-short a (b ++ zeros (length m)) m h
+    ∙ sym (xorBits-short a (zeros (length m)) m h)
 
 pub added-zeros : (a m : List Bool) (k : ℕ) → added (a ++ zeros k) m ≡ added a m
 unfolding added
 added-zeros a m k =
     let n = length m in
-    ap (λ z. xor z m)
+    ap (λ z. xorBits z m)
     (append-assoc a (zeros k) (zeros n)
     ∙ ap (λ z. a ++ z) (zeros-append k n ∙ ap zeros (add-comm k n) ∙ sym (zeros-append n k)) ∙ sym (append-assoc a (zeros n) (zeros k)))
-    ∙ xor-short (a ++ zeros n) (zeros k) m (omega (arith, length-append a (zeros n), length-zeros n))
+    ∙ xorBits-short (a ++ zeros n) (zeros k) m (omega (arith, length-append a (zeros n), length-zeros n))
 
 -- the first bits, and the others
-pub added-append : (a b m n : List Bool) → length a ≡ length m → added (a ++ b) (m ++ n) ≡ xor a m ++ added b n
+pub added-append : (a b m n : List Bool) → length a ≡ length m → added (a ++ b) (m ++ n) ≡ xorBits a m ++ added b n
 unfolding added
 added-append a b m n h =
     let k = length m in
     let l = length n in
-    ap (λ x. xor x (m ++ n)) (append-assoc a b (zeros (length (m ++ n))))
-    ∙ xor-append a m (b ++ zeros (length (m ++ n))) n h
-    ∙ ap (λ z. xor a m ++ xor (b ++ z) n) (ap zeros (length-append m n ∙ add-comm k l) ∙ sym (zeros-append l k))
-    ∙ ap (λ z. xor a m ++ xor z n) (sym (append-assoc b (zeros l) (zeros k)))
-    ∙ ap (λ z. xor a m ++ z) (xor-short (b ++ zeros l) (zeros k) n (omega (arith, length-append b (zeros l), length-zeros l)))
+    ap (λ x. xorBits x (m ++ n)) (append-assoc a b (zeros (length (m ++ n))))
+    ∙ xorBits-append a m (b ++ zeros (length (m ++ n))) n h
+    ∙ ap (λ z. xorBits a m ++ xorBits (b ++ z) n) (ap zeros (length-append m n ∙ add-comm k l) ∙ sym (zeros-append l k))
+    ∙ ap (λ z. xorBits a m ++ xorBits z n) (sym (append-assoc b (zeros l) (zeros k)))
+    ∙ ap (λ z. xorBits a m ++ z) (xorBits-short (b ++ zeros l) (zeros k) n (omega (arith, length-append b (zeros l), length-zeros l)))
 
 -- as many as are pending
-pub added-whole : (a m n : List Bool) → length a ≡ length m → added a (m ++ n) ≡ xor a m ++ n
-added-whole a m n h = ap (λ z. added z (m ++ n)) (sym (append-nil a)) ∙ added-append a [] m n h ∙ ap (λ z. xor a m ++ z) (added-none 0 n)
+pub added-whole : (a m n : List Bool) → length a ≡ length m → added a (m ++ n) ≡ xorBits a m ++ n
+added-whole a m n h = ap (λ z. added z (m ++ n)) (sym (append-nil a)) ∙ added-append a [] m n h ∙ ap (λ z. xorBits a m ++ z) (added-none 0 n)
 
 pub pending-added : (n : ℕ) (pending : List Bool) (content : List ℕ) → length pending ≡ 8 * n → n ≤ length content
     → pendingBits n pending content ≡ added pending (bitsOf content)
@@ -82,9 +82,9 @@ begins-added p r m h l =
     let n = length m in
     let s : length m ≡ length p + k = omega arith in
     ap (enter p r) (sym (append-nil m)) ∙ begins p r m [] k h s
-    ∙ ap (entered p) (append-nil (xor (r ++ zeros k) m)
-    ∙ sym (xor-short (r ++ zeros k) (zeros (n - k)) m (omega (arith, length-append r (zeros k), length-zeros k)))
-    ∙ ap (λ z. xor z m) (append-assoc r (zeros k) (zeros (n - k)) ∙ ap (λ z. r ++ z) (zeros-append k (n - k) ∙ ap zeros (all k n (omega arith)))))
+    ∙ ap (entered p) (append-nil (xorBits (r ++ zeros k) m)
+    ∙ sym (xorBits-short (r ++ zeros k) (zeros (n - k)) m (omega (arith, length-append r (zeros k), length-zeros k)))
+    ∙ ap (λ z. xorBits z m) (append-assoc r (zeros k) (zeros (n - k)) ∙ ap (λ z. r ++ z) (zeros-append k (n - k) ∙ ap zeros (all k n (omega arith)))))
   where
     all : (i j : ℕ) → i ≤ j → i + (j - i) ≡ j
     all i j e = omega arith

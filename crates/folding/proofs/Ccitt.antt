@@ -3,7 +3,7 @@ use mathlib.Core.Path.{_≡_, refl, sym, ap, ap₂, _∙_}
 use Prim.Native.Nat.{ℕ, _^_, _<_}
 use mathlib.Core.List.{[], _∷_, _++_}
 use lib.Bits.{bitXor, xor-zero-l, xor-zero-r}
-use Rattle.bits.specs.Strings.{xor, zeros}
+use Rattle.bits.specs.Strings.{xorBits, zeros}
 use Rattle.bits.specs.Bytes.{lowBits}
 use Rattle.bits.proofs.Bytes.{lowBits-zero}
 use Rattle.folding.specs.Fold.{spread, wordBits, foldedBits, ccittPowers}
@@ -26,9 +26,9 @@ module _ (t : ℕ) (fits : t < 2 ^ 64) where
   spread-ccitt : spread 256 ccittPowers (lowBits 64 t) ≡ wordBits (t ∷ stays 48 t ∷ goes 48 t ∷ t ∷ [])
   unfolding spread
   spread-ccitt =
-      ap₂ xor (placed t 3)
-      (ap₂ xor at-112
-      (ap₂ xor at-192 nothing ∙ words-xor (0 ∷ 0 ∷ 0 ∷ t ∷ []) (0 ∷ 0 ∷ 0 ∷ 0 ∷ []) refl)
+      ap₂ xorBits (placed t 3)
+      (ap₂ xorBits at-112
+      (ap₂ xorBits at-192 nothing ∙ words-xor (0 ∷ 0 ∷ 0 ∷ t ∷ []) (0 ∷ 0 ∷ 0 ∷ 0 ∷ []) refl)
       ∙ words-xor (0 ∷ stays 48 t ∷ goes 48 t ∷ 0 ∷ []) (0 ∷ 0 ∷ 0 ∷ bitXor t 0 ∷ []) refl)
       ∙ words-xor (t ∷ 0 ∷ 0 ∷ 0 ∷ []) (0 ∷ bitXor (stays 48 t) 0 ∷ bitXor (goes 48 t) 0 ∷ bitXor 0 (bitXor t 0) ∷ []) refl
       ∙ ap wordBits (simp (xor-zero-l, xor-zero-r))

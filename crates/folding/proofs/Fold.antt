@@ -6,9 +6,9 @@ use native.Mathlib.Omega.{arith}
 use mathlib.Core.Bool.{Bool, true, false}
 use mathlib.Core.List.{List, [], _∷_, _++_, append-assoc}
 use lib.ListN.{length, length-append, length-replicate}
-use Rattle.bits.specs.Strings.{add, xor, zeros}
+use Rattle.bits.specs.Strings.{add, xorBits, zeros}
 use Rattle.bits.specs.Differences.{Each}
-use Rattle.bits.proofs.Strings.{length-zeros, length-xor, xor-four, xor-zeros, xor-append, zeros-append}
+use Rattle.bits.proofs.Strings.{length-zeros, length-xor, xorBits-four, xorBits-zeros, xorBits-append, zeros-append}
 use Rattle.registers.specs.Register.{enter, entered}
 use Rattle.registers.proofs.Entered.{zeros-twice, length-entered, entered-xor, entered-zeros, entered-leading, enter-apart}
 use Rattle.registers.proofs.Enter.{enter-append, enter-linear}
@@ -18,16 +18,16 @@ use Rattle.folding.specs.Fold.{spread}
 
 abbrev pub sums : ℕ → (ℕ → List Bool) → List ℕ → List Bool
 sums w f [] = zeros w
-sums w f (e ∷ es) = xor (f e) (sums w f es)
+sums w f (e ∷ es) = xorBits (f e) (sums w f es)
 
 sums-eq : (w : ℕ) (f g : ℕ → List Bool) (es : List ℕ) → ((e : ℕ) → f e ≡ g e) → sums w f es ≡ sums w g es
 sums-eq w f g [] h = refl
-sums-eq w f g (e ∷ es) h = ap₂ xor (h e) (sums-eq w f g es h)
+sums-eq w f g (e ∷ es) h = ap₂ xorBits (h e) (sums-eq w f g es h)
 
-sums-xor : (w : ℕ) (f g : ℕ → List Bool) (es : List ℕ) → xor (sums w f es) (sums w g es) ≡ sums w (λ e. xor (f e) (g e)) es
+sums-xor : (w : ℕ) (f g : ℕ → List Bool) (es : List ℕ) → xorBits (sums w f es) (sums w g es) ≡ sums w (λ e. xorBits (f e) (g e)) es
 sums-xor w f g [] = zeros-twice w
 sums-xor w f g (e ∷ es) =
-    xor-four (f e) (sums w f es) (g e) (sums w g es) ∙ ap (λ z. xor (xor (f e) (g e)) z) (sums-xor w f g es)
+    xorBits-four (f e) (sums w f es) (g e) (sums w g es) ∙ ap (λ z. xorBits (xorBits (f e) (g e)) z) (sums-xor w f g es)
 
 length-sums : (w : ℕ) (f : ℕ → List Bool) (es : List ℕ) → ((e : ℕ) → length (f e) ≡ w) → length (sums w f es) ≡ w
 length-sums w f [] h = length-zeros w
@@ -39,9 +39,9 @@ module _ (p : List Bool) where
       → enter p (sums (length p) f es) (zeros j) ≡ sums (length p) (λ e. enter p (f e) (zeros j)) es
   sums-enter f [] j h = entered-zeros p j
   sums-enter f (e ∷ es) j h =
-      ap (enter p (xor (f e) (sums (length p) f es))) (sym (zeros-twice j))
+      ap (enter p (xorBits (f e) (sums (length p) f es))) (sym (zeros-twice j))
       ∙ enter-linear p (f e) (sums (length p) f es) (zeros j) (zeros j) (h e) (length-sums (length p) f es h) refl
-      ∙ ap (λ z. xor (enter p (f e) (zeros j)) z) (sums-enter f es j h)
+      ∙ ap (λ z. xorBits (enter p (f e) (zeros j)) z) (sums-enter f es j h)
 
   -- ---- x^n is the sum of the powers es: at 1, and so at every string
 
@@ -69,18 +69,18 @@ module _ (p : List Bool) where
 
         nothing : (l : List ℕ) → sums (length p) (λ e. zeros (length p)) l ≡ zeros (length p)
         nothing [] = refl
-        nothing (e ∷ l) = ap (xor (zeros (length p))) (nothing l) ∙ zeros-twice (length p)
+        nothing (e ∷ l) = ap (xorBits (zeros (length p))) (nothing l) ∙ zeros-twice (length p)
 
     -- the first bit and the others, apart
     first-apart : (b : Bool) (t : List Bool) (k : ℕ)
-        → entered p ((b ∷ t) ++ zeros k) ≡ xor (entered p ((b ∷ zeros (length t)) ++ zeros k)) (entered p (t ++ zeros k))
+        → entered p ((b ∷ t) ++ zeros k) ≡ xorBits (entered p ((b ∷ zeros (length t)) ++ zeros k)) (entered p (t ++ zeros k))
     first-apart b t k =
         let j = length t in
-        let e : (b ∷ t) ++ zeros k ≡ xor ((b ∷ zeros j) ++ zeros k) (false ∷ (t ++ zeros k)) =
-        ap₂ (λ x y. x ∷ y) (added b) (sym (xor-append (zeros j) t (zeros k) (zeros k) (length-zeros j) ∙ ap₂ _++_ (xor-zeros j t refl) (zeros-twice k))) in
+        let e : (b ∷ t) ++ zeros k ≡ xorBits ((b ∷ zeros j) ++ zeros k) (false ∷ (t ++ zeros k)) =
+        ap₂ (λ x y. x ∷ y) (added b) (sym (xorBits-append (zeros j) t (zeros k) (zeros k) (length-zeros j) ∙ ap₂ _++_ (xorBits-zeros j t refl) (zeros-twice k))) in
         ap (entered p) e
         ∙ entered-xor p ((b ∷ zeros j) ++ zeros k) (false ∷ (t ++ zeros k)) (simp (length-append, length-replicate) (omega arith))
-        ∙ ap (λ z. xor (entered p ((b ∷ zeros j) ++ zeros k)) z) (entered-leading p 1 (t ++ zeros k))
+        ∙ ap (λ z. xorBits (entered p ((b ∷ zeros j) ++ zeros k)) z) (entered-leading p 1 (t ++ zeros k))
       where
         added : (x : Bool) → x ≡ add x false
         added true = refl
@@ -92,13 +92,13 @@ module _ (p : List Bool) where
       where
         nothing : (l : List ℕ) → sums (length p) (λ e. entered p (zeros e)) l ≡ zeros (length p)
         nothing [] = refl
-        nothing (e ∷ l) = ap₂ xor (entered-zeros p e) (nothing l) ∙ zeros-twice (length p)
+        nothing (e ∷ l) = ap₂ xorBits (entered-zeros p e) (nothing l) ∙ zeros-twice (length p)
     powers (b ∷ t) =
         let f : ℕ → List Bool = λ e. entered p ((b ∷ zeros (length t)) ++ zeros e) in
         let g : ℕ → List Bool = λ e. entered p (t ++ zeros e) in
-        first-apart b t n ∙ ap₂ xor (bit b (length t)) (powers t)
+        first-apart b t n ∙ ap₂ xorBits (bit b (length t)) (powers t)
         ∙ sums-xor (length p) f g es
-        ∙ sums-eq (length p) (λ e. xor (f e) (g e)) (λ e. entered p ((b ∷ t) ++ zeros e)) es (λ e. sym (first-apart b t e))
+        ∙ sums-eq (length p) (λ e. xorBits (f e) (g e)) (λ e. entered p ((b ∷ t) ++ zeros e)) es (λ e. sym (first-apart b t e))
 
   -- ---- the sum as a string
 
@@ -121,18 +121,18 @@ module _ (p : List Bool) where
       let l : e + 64 ≤ n = h .0 in
       let la : length a ≡ n = simp (length-append, length-replicate) (omega arith) in
       entered-xor p a (spread n es t) (la ∙ sym (length-spread n es t w (h .1)))
-      ∙ ap₂ xor (entered-leading p (n - e - 64) (t ++ zeros e)) (entered-spread n es t w (h .1))
+      ∙ ap₂ xorBits (entered-leading p (n - e - 64) (t ++ zeros e)) (entered-spread n es t w (h .1))
 
   -- bits at the front are taken away and added to the n behind them
   pub folds : (n : ℕ) (es : List ℕ) → Powers n es (true ∷ []) → (t y rest : List Bool) → length t ≡ 64 → Each (λ e. e + 64 ≤ n) es → length y ≡ n
-      → entered p (t ++ (y ++ rest)) ≡ entered p (xor (spread n es t) y ++ rest)
+      → entered p (t ++ (y ++ rest)) ≡ entered p (xorBits (spread n es t) y ++ rest)
   folds n es one t y rest w h l =
       let z = zeros (length p) in
       let s = spread n es t in
-      let here : entered p (t ++ y) ≡ entered p (xor s y) =
+      let here : entered p (t ++ y) ≡ entered p (xorBits s y) =
       enter-append p z t y ∙ enter-apart p (entered p t) y (length-entered p t)
-      ∙ ap (λ k. xor (enter p (entered p t) (zeros k)) (entered p y)) l
-      ∙ ap (λ r. xor r (entered p y)) (sym (enter-append p z t (zeros n)) ∙ powers n es one t ∙ sym (entered-spread n es t w h))
+      ∙ ap (λ k. xorBits (enter p (entered p t) (zeros k)) (entered p y)) l
+      ∙ ap (λ r. xorBits r (entered p y)) (sym (enter-append p z t (zeros n)) ∙ powers n es one t ∙ sym (entered-spread n es t w h))
       ∙ sym (entered-xor p s y (length-spread n es t w h ∙ sym l)) in
       ap (entered p) (sym (append-assoc t y rest)) ∙ enter-append p z (t ++ y) rest
-      ∙ ap (λ r. enter p r rest) here ∙ sym (enter-append p z (xor s y) rest)
+      ∙ ap (λ r. enter p r rest) here ∙ sym (enter-append p z (xorBits s y) rest)

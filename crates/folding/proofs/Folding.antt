@@ -10,10 +10,10 @@ use mathlib.Core.List.{List, [], _∷_, _++_, append-assoc}
 use lib.Bits.{bitXor}
 use lib.ListN.{length, take, drop, getD, length-drop, take-append-drop, drop-of-length-le}
 use lib.Seq.{drop-cons, drop-drop}
-use Rattle.bits.specs.Strings.{xor, zeros}
+use Rattle.bits.specs.Strings.{xorBits, zeros}
 use Rattle.bits.specs.Bytes.{lowBits, bitsOf}
 use Rattle.bits.specs.Differences.{Each}
-use Rattle.bits.proofs.Strings.{zeros-append, xor-nil}
+use Rattle.bits.proofs.Strings.{zeros-append, xorBits-nil}
 use Rattle.bits.proofs.Bytes.{length-lowBits, lowBits-zero, lowBits-append, lowBits-xor, lowBits-mod, length-bitsOf, bitsOf-append}
 use Rattle.registers.specs.Register.{enter, entered}
 use Rattle.registers.proofs.Enter.{enter-append}
@@ -137,7 +137,7 @@ turn-bytes {p} {w} {start} {pending} {content} {register} {rest} {i} low r h bel
           ap₂ (λ y z. enter p y (added z m)) f more ∙ ap (enter p (enter p (lowBits w register) x)) (added-zeros up m 8)
           ∙ sym (enter-append p (lowBits w register) x (added up m))
           ∙ ap (enter p (lowBits w register))
-          (ap (λ z. z ++ added up m) (lowBits-xor 8 low b ∙ ap (λ z. xor z (lowBits 8 b)) (ap (lowBits 8) l ∙ lowBits-mod 8 rest))
+          (ap (λ z. z ++ added up m) (lowBits-xor 8 low b ∙ ap (λ z. xorBits z (lowBits 8 b)) (ap (lowBits 8) l ∙ lowBits-mod 8 rest))
           ∙ sym (added-append (lowBits 8 rest) up (lowBits 8 b) m (length-lowBits 8 rest ∙ sym (length-lowBits 8 b)))
           ∙ ap₂ (λ y z. added y (bitsOf z)) (sym (lowBits-append 8 56 rest)) (sym here))
           ∙ h .left;
@@ -150,7 +150,7 @@ pub all-bytes : {p : List Bool} {w start pending : ℕ} {content : List ℕ} {re
     → lowBits w register ≡ enter p (lowBits w start) (added (lowBits 64 pending) (bitsOf content))
 unfolding bitsOf added enter
 all-bytes {p} {w} {content = content} {register = register} {rest = rest} h end =
-    ap (λ z. enter p (lowBits w register) z) (sym (xor-nil (lowBits 64 rest ++ [])))
+    ap (λ z. enter p (lowBits w register) z) (sym (xorBits-nil (lowBits 64 rest ++ [])))
     ∙ ap (λ z. enter p (lowBits w register) (added (lowBits 64 rest) (bitsOf z))) (sym (drop-of-length-le content end)) ∙ h .left
 
 -- ---- a content: its bytes alone; or words folded, words entered, and the bytes behind them

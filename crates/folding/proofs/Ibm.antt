@@ -3,7 +3,7 @@ use mathlib.Core.Path.{_≡_, refl, sym, ap, ap₂, _∙_}
 use Prim.Native.Nat.{ℕ, _^_, _<_}
 use mathlib.Core.List.{[], _∷_, _++_}
 use lib.Bits.{bitXor, xor-zero-r}
-use Rattle.bits.specs.Strings.{xor, zeros}
+use Rattle.bits.specs.Strings.{xorBits, zeros}
 use Rattle.bits.specs.Bytes.{lowBits}
 use Rattle.bits.proofs.Bytes.{lowBits-zero}
 use Rattle.folding.specs.Fold.{spread, wordBits, foldedBits, ibmPowers}
@@ -31,11 +31,11 @@ module _ (t : ℕ) (fits : t < 2 ^ 64) where
       ≡ wordBits (bitXor t (bitXor (stays 48 t) (stays 56 t)) ∷ bitXor (goes 48 t) (bitXor (goes 56 t) (bitXor (stays 48 t) (stays 56 t))) ∷ bitXor (goes 48 t) (goes 56 t) ∷ [])
   unfolding spread
   spread-ibm =
-      ap₂ xor (placed t 2)
-      (ap₂ xor at-48
-      (ap₂ xor at-56
-      (ap₂ xor at-112
-      (ap₂ xor at-120 nothing
+      ap₂ xorBits (placed t 2)
+      (ap₂ xorBits at-48
+      (ap₂ xorBits at-56
+      (ap₂ xorBits at-112
+      (ap₂ xorBits at-120 nothing
       ∙ words-xor (0 ∷ stays 56 t ∷ goes 56 t ∷ []) (0 ∷ 0 ∷ 0 ∷ []) refl)
       ∙ words-xor (0 ∷ stays 48 t ∷ goes 48 t ∷ []) (0 ∷ bitXor (stays 56 t) 0 ∷ bitXor (goes 56 t) 0 ∷ []) refl)
       ∙ words-xor (stays 56 t ∷ goes 56 t ∷ 0 ∷ []) (0 ∷ bitXor (stays 48 t) (bitXor (stays 56 t) 0) ∷ bitXor (goes 48 t) (bitXor (goes 56 t) 0) ∷ []) refl)

@@ -3,7 +3,7 @@ use mathlib.Core.Path.{_≡_, refl, sym, ap, ap₂, _∙_}
 use Prim.Native.Nat.{ℕ, _^_, _<_}
 use mathlib.Core.List.{[], _∷_, _++_}
 use lib.Bits.{bitXor, xor-zero-l, xor-zero-r}
-use Rattle.bits.specs.Strings.{xor, zeros}
+use Rattle.bits.specs.Strings.{xorBits, zeros}
 use Rattle.bits.specs.Bytes.{lowBits}
 use Rattle.bits.proofs.Bytes.{lowBits-zero}
 use Rattle.folding.specs.Fold.{spread, wordBits, foldedBits, ieeePowers}
@@ -36,10 +36,10 @@ module _ (t : ℕ) (fits : t < 2 ^ 64) where
       ≡ wordBits (0 ∷ bitXor (stays 17 t) (stays 55 t) ∷ bitXor (goes 17 t) (bitXor (goes 55 t) (stays 19 t)) ∷ bitXor (goes 19 t) (stays 44 t) ∷ goes 44 t ∷ [])
   unfolding spread
   spread-ieee =
-      ap₂ xor at-81
-      (ap₂ xor at-119
-      (ap₂ xor at-147
-      (ap₂ xor at-236 nothing
+      ap₂ xorBits at-81
+      (ap₂ xorBits at-119
+      (ap₂ xorBits at-147
+      (ap₂ xorBits at-236 nothing
       ∙ words-xor (0 ∷ 0 ∷ 0 ∷ stays 44 t ∷ goes 44 t ∷ []) (0 ∷ 0 ∷ 0 ∷ 0 ∷ 0 ∷ []) refl
       ∙ ap wordBits (simp xor-zero-r))
       ∙ words-xor (0 ∷ 0 ∷ stays 19 t ∷ goes 19 t ∷ 0 ∷ []) (0 ∷ 0 ∷ 0 ∷ stays 44 t ∷ goes 44 t ∷ []) refl

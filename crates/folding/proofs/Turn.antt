@@ -8,10 +8,10 @@ use mathlib.Core.List.{List, [], _∷_, _++_, append-assoc}
 use lib.ListN.{length, take, drop, length-append, length-drop, take-append-drop}
 use lib.Pow.{shr-lt, shl-shr}
 use lib.Seq.{take-add, drop-drop, length-take-le}
-use Rattle.bits.specs.Strings.{xor, zeros}
+use Rattle.bits.specs.Strings.{xorBits, zeros}
 use Rattle.bits.specs.Bytes.{lowBits, bitsOf}
 use Rattle.bits.specs.Differences.{Each}
-use Rattle.bits.proofs.Strings.{length-xor, xor-assoc, xor-zeros, xor-append}
+use Rattle.bits.proofs.Strings.{length-xor, xorBits-assoc, xorBits-zeros, xorBits-append}
 use Rattle.bits.proofs.Bytes.{lowBits-append, lowBits-mod, lowBits-zero, length-bitsOf, bitsOf-append}
 use Rattle.registers.specs.Register.{entered}
 use Rattle.folding.specs.Fold.{spread, foldedBits, added}
@@ -19,37 +19,37 @@ use Rattle.folding.proofs.Fold.{Powers, folds}
 
 -- the bits of a content, with what is yet to be added to its first n bytes
 unfoldable pub pendingBits : ℕ → List Bool → List ℕ → List Bool
-pendingBits n pending content = xor pending (bitsOf (take n content)) ++ bitsOf (drop n content)
+pendingBits n pending content = xorBits pending (bitsOf (take n content)) ++ bitsOf (drop n content)
 
 module _ (p : List Bool) where
   -- ---- a turn: the word m is taken away
 
   module _ (k : ℕ) (es : List ℕ) (one : Powers p (64 + 8 * k) es (true ∷ [])) (far : Each (λ e. e + 64 ≤ 64 + 8 * k) es) where
     turns-at : (a f : List Bool) (m q e rest : List ℕ) → length a ≡ 64 → length f ≡ 8 * k → length m ≡ 8 → length q ≡ k → length e ≡ 8
-        → entered p (xor (a ++ f) (bitsOf (m ++ q)) ++ bitsOf (e ++ rest))
-        ≡ entered p (xor (xor (spread (64 + 8 * k) es (xor a (bitsOf m))) (f ++ zeros 64)) (bitsOf (q ++ e)) ++ bitsOf rest)
+        → entered p (xorBits (a ++ f) (bitsOf (m ++ q)) ++ bitsOf (e ++ rest))
+        ≡ entered p (xorBits (xorBits (spread (64 + 8 * k) es (xorBits a (bitsOf m))) (f ++ zeros 64)) (bitsOf (q ++ e)) ++ bitsOf rest)
     turns-at a f m q e rest la lf lm lq le =
-        let t = xor a (bitsOf m) in
+        let t = xorBits a (bitsOf m) in
         let bm : length (bitsOf m) ≡ 64 = length-bitsOf m ∙ ap (λ n. 8 * n) lm in
         let bq : length (bitsOf q) ≡ 8 * k = length-bitsOf q ∙ ap (λ n. 8 * n) lq in
         let be : length (bitsOf e) ≡ 64 = length-bitsOf e ∙ ap (λ n. 8 * n) le in
         let lt : length t ≡ 64 = length-xor a (bitsOf m) (la ∙ sym bm) ∙ bm in
-        let y = xor f (bitsOf q) ++ bitsOf e in
-        let lfq : length (xor f (bitsOf q)) ≡ 8 * k = length-xor f (bitsOf q) (lf ∙ sym bq) ∙ bq in
-        let ly : length y ≡ 64 + 8 * k = length-append (xor f (bitsOf q)) (bitsOf e) ∙ ap₂ (λ i j. i + j) lfq be ∙ add-comm (8 * k) 64 in
-        let left : xor (a ++ f) (bitsOf (m ++ q)) ++ bitsOf (e ++ rest) ≡ t ++ (y ++ bitsOf rest) =
-        ap₂ (λ i j. xor (a ++ f) i ++ j) (bitsOf-append m q) (bitsOf-append e rest)
-        ∙ ap (λ i. i ++ (bitsOf e ++ bitsOf rest)) (xor-append a (bitsOf m) f (bitsOf q) (la ∙ sym bm))
-        ∙ append-assoc t (xor f (bitsOf q)) (bitsOf e ++ bitsOf rest)
-        ∙ ap (λ i. t ++ i) (sym (append-assoc (xor f (bitsOf q)) (bitsOf e) (bitsOf rest))) in
-        let right : y ≡ xor (f ++ zeros 64) (bitsOf (q ++ e)) =
-        ap (λ i. xor f (bitsOf q) ++ i) (sym (xor-zeros 64 (bitsOf e) be)) ∙ sym (xor-append f (bitsOf q) (zeros 64) (bitsOf e) (lf ∙ sym bq))
-        ∙ ap (xor (f ++ zeros 64)) (sym (bitsOf-append q e)) in
+        let y = xorBits f (bitsOf q) ++ bitsOf e in
+        let lfq : length (xorBits f (bitsOf q)) ≡ 8 * k = length-xor f (bitsOf q) (lf ∙ sym bq) ∙ bq in
+        let ly : length y ≡ 64 + 8 * k = length-append (xorBits f (bitsOf q)) (bitsOf e) ∙ ap₂ (λ i j. i + j) lfq be ∙ add-comm (8 * k) 64 in
+        let left : xorBits (a ++ f) (bitsOf (m ++ q)) ++ bitsOf (e ++ rest) ≡ t ++ (y ++ bitsOf rest) =
+        ap₂ (λ i j. xorBits (a ++ f) i ++ j) (bitsOf-append m q) (bitsOf-append e rest)
+        ∙ ap (λ i. i ++ (bitsOf e ++ bitsOf rest)) (xorBits-append a (bitsOf m) f (bitsOf q) (la ∙ sym bm))
+        ∙ append-assoc t (xorBits f (bitsOf q)) (bitsOf e ++ bitsOf rest)
+        ∙ ap (λ i. t ++ i) (sym (append-assoc (xorBits f (bitsOf q)) (bitsOf e) (bitsOf rest))) in
+        let right : y ≡ xorBits (f ++ zeros 64) (bitsOf (q ++ e)) =
+        ap (λ i. xorBits f (bitsOf q) ++ i) (sym (xorBits-zeros 64 (bitsOf e) be)) ∙ sym (xorBits-append f (bitsOf q) (zeros 64) (bitsOf e) (lf ∙ sym bq))
+        ∙ ap (xorBits (f ++ zeros 64)) (sym (bitsOf-append q e)) in
         let n = 64 + 8 * k in
         ap (entered p) left
         ∙ folds p n es one t y (bitsOf rest) lt far ly
-        ∙ ap (λ i. entered p (xor (spread n es t) i ++ bitsOf rest)) right
-        ∙ ap (λ i. entered p (i ++ bitsOf rest)) (sym (xor-assoc (spread n es t) (f ++ zeros 64) (bitsOf (q ++ e))))
+        ∙ ap (λ i. entered p (xorBits (spread n es t) i ++ bitsOf rest)) right
+        ∙ ap (λ i. entered p (i ++ bitsOf rest)) (sym (xorBits-assoc (spread n es t) (f ++ zeros 64) (bitsOf (q ++ e))))
 
     pub turns : (pending : List Bool) (content : List ℕ) → length pending ≡ 64 + 8 * k → 16 + k ≤ length content
         → entered p (pendingBits (8 + k) pending content)
@@ -68,11 +68,11 @@ module _ (p : List Bool) where
         let s : drop (8 + k) content ≡ e ++ rest = sym (drop-drop k 8 content) ∙ sym (take-append-drop 8 (drop k c)) in
         let u : take (8 + k) c ≡ q ++ e = ap (λ i. take i c) (add-comm 8 k) ∙ take-add k 8 c in
         let v : drop (8 + k) c ≡ rest = ap (λ i. drop i c) (add-comm 8 k) ∙ sym (drop-drop 8 k c) in
-        ap (λ i. entered p (xor i (bitsOf (take (8 + k) content)) ++ bitsOf (drop (8 + k) content))) (sym (take-append-drop 64 pending))
-        ∙ ap₂ (λ i j. entered p (xor (a ++ f) (bitsOf i) ++ bitsOf j)) (take-add 8 k content) s
+        ap (λ i. entered p (xorBits i (bitsOf (take (8 + k) content)) ++ bitsOf (drop (8 + k) content))) (sym (take-append-drop 64 pending))
+        ∙ ap₂ (λ i j. entered p (xorBits (a ++ f) (bitsOf i) ++ bitsOf j)) (take-add 8 k content) s
         ∙ turns-at a f m q e rest (length-take-le 64 pending (omega arith)) (length-drop 64 pending ∙ omega arith)
         (length-take-le 8 content (omega arith)) (length-take-le k c (omega arith)) (length-take-le 8 (drop k c) (omega arith))
-        ∙ ap₂ (λ i j. entered p (xor (xor (spread (64 + 8 * k) es (xor a (bitsOf m))) (f ++ zeros 64)) (bitsOf i) ++ bitsOf j)) (sym u) (sym v)
+        ∙ ap₂ (λ i j. entered p (xorBits (xorBits (spread (64 + 8 * k) es (xorBits a (bitsOf m))) (f ++ zeros 64)) (bitsOf i) ++ bitsOf j)) (sym u) (sym v)
 
 -- ---- a word moved on by j bits, in two words
 

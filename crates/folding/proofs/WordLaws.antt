@@ -10,9 +10,9 @@ use lib.Bits.{bitXor}
 use lib.ListN.{length, getD, take, drop, replicate, length-append, length-drop}
 use lib.Pow.{pow-pos}
 use lib.Seq.{drop-cons, take-all, take-at, drop-at}
-use Rattle.bits.specs.Strings.{xor, zeros}
+use Rattle.bits.specs.Strings.{xorBits, zeros}
 use Rattle.bits.specs.Bytes.{lowBits, bitsOf}
-use Rattle.bits.proofs.Strings.{xor-append, zeros-append}
+use Rattle.bits.proofs.Strings.{xorBits-append, zeros-append}
 use Rattle.bits.proofs.Bytes.{length-lowBits, lowBits-append, lowBits-mod, lowBits-xor, lowBits-zero}
 use Rattle.folding.specs.Fold.{wordBits, spread, foldedBits}
 
@@ -63,13 +63,13 @@ xorWords [] ys = []
 xorWords (x ∷ xs) [] = []
 xorWords (x ∷ xs) (y ∷ ys) = bitXor x y ∷ xorWords xs ys
 
-pub words-xor : (xs ys : List ℕ) → length xs ≡ length ys → xor (wordBits xs) (wordBits ys) ≡ wordBits (xorWords xs ys)
+pub words-xor : (xs ys : List ℕ) → length xs ≡ length ys → xorBits (wordBits xs) (wordBits ys) ≡ wordBits (xorWords xs ys)
 unfolding wordBits
 words-xor [] [] h = refl
 words-xor [] (y ∷ ys) h = absurd (omega arith)
 words-xor (x ∷ xs) [] h = absurd (omega arith)
 words-xor (x ∷ xs) (y ∷ ys) h =
-    xor-append (lowBits 64 x) (lowBits 64 y) (wordBits xs) (wordBits ys) (length-lowBits 64 x ∙ sym (length-lowBits 64 y))
+    xorBits-append (lowBits 64 x) (lowBits 64 y) (wordBits xs) (wordBits ys) (length-lowBits 64 x ∙ sym (length-lowBits 64 y))
     ∙ ap₂ _++_ (sym (lowBits-xor 64 x y)) (words-xor xs ys (omega arith))
 
 pub length-words : (ws : List ℕ) → length (wordBits ws) ≡ 64 * length ws
@@ -136,7 +136,7 @@ unfolding foldedBits wordBits
 folded-words n es a ws ss word s l =
     let first = take-at (lowBits 64 a) (wordBits ws) 64 (length-lowBits 64 a) in
     let others = drop-at (lowBits 64 a) (wordBits ws) 64 (length-lowBits 64 a) in
-    ap₂ (λ x y. xor (spread n es (xor x (lowBits 64 word))) (y ++ zeros 64)) first others
-    ∙ ap₂ (λ x y. xor (spread n es x) y) (sym (lowBits-xor 64 a word)) (shift-words ws)
-    ∙ ap (λ x. xor x (wordBits (ws ++ 0 ∷ []))) s
+    ap₂ (λ x y. xorBits (spread n es (xorBits x (lowBits 64 word))) (y ++ zeros 64)) first others
+    ∙ ap₂ (λ x y. xorBits (spread n es x) y) (sym (lowBits-xor 64 a word)) (shift-words ws)
+    ∙ ap (λ x. xorBits x (wordBits (ws ++ 0 ∷ []))) s
     ∙ words-xor ss (ws ++ 0 ∷ []) l

@@ -4,7 +4,7 @@ use Prim.Native.Nat.{ℕ, _-_}
 use mathlib.Core.Bool.{Bool}
 use mathlib.Core.List.{List, [], _∷_, _++_}
 use lib.ListN.{length, take, drop}
-use Rattle.bits.specs.Strings.{xor, zeros}
+use Rattle.bits.specs.Strings.{xorBits, zeros}
 use Rattle.bits.specs.Bytes.{lowBits}
 use Rattle.division.specs.Generators.{ccitt16, ibm16}
 use Rattle.registers.specs.Register.{tableOf, enterAllByTable}
@@ -17,7 +17,7 @@ use Rattle.folding.specs.declared.generator.Generator16.the-variants.{Cc
 -- the 64 bits t times each power of es, added up in a string of n bits
 unfoldable pub spread : ℕ → List ℕ → List Bool → List Bool
 spread n [] t = zeros n
-spread n (e ∷ es) t = xor (zeros (n - e - 64) ++ (t ++ zeros e)) (spread n es t)
+spread n (e ∷ es) t = xorBits (zeros (n - e - 64) ++ (t ++ zeros e)) (spread n es t)
 
 -- words as bits
 unfoldable pub wordBits : List ℕ → List Bool
@@ -26,11 +26,11 @@ wordBits (w ∷ ws) = lowBits 64 w ++ wordBits ws
 
 -- what is yet to be added to the next n bits, after one word more
 unfoldable pub foldedBits : ℕ → List ℕ → List Bool → List Bool → List Bool
-foldedBits n es pending word = xor (spread n es (xor (take 64 pending) word)) (drop 64 pending ++ zeros 64)
+foldedBits n es pending word = xorBits (spread n es (xorBits (take 64 pending) word)) (drop 64 pending ++ zeros 64)
 
 -- bits with what is yet to be added to them, as far as they go
 unfoldable pub added : List Bool → List Bool → List Bool
-added pending m = xor (pending ++ zeros (length m)) m
+added pending m = xorBits (pending ++ zeros (length m)) m
 
 -- ---- the multiples of the generators: x^256 = x^192 + x^80 + 1; x^192 = x^128 + x^80 + x^72 + x^16 + x^8;
 -- x^320 = x^175 + x^137 + x^109 + x^20

@@ -43,12 +43,12 @@ pub fn low_byte(word: u64) -> u8
 }
 
 // How many words of a content are folded: none of one shorter than `least`, else as many as leave the last bytes.
-pub fn words_before(length: usize, least: usize, last: usize) -> usize
+pub fn words_before(size: usize, least: usize, last: usize) -> usize
     requires { ⌜ last ≤ least ⌝ }
-    ensures { λ r. ⌜ (8 * r ≤ length) × (0 < r → 8 * r + last ≤ length) ⌝ }
+    ensures { λ r. ⌜ (8 * r ≤ size) × (0 < r → 8 * r + last ≤ size) ⌝ }
 {
-    if length < least {
+    if size < least {
         return 0;
     }
-    (length - last) / 8
+    (size - last) / 8
 }

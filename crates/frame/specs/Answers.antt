@@ -55,7 +55,7 @@ readValue reading.WrongCheck = 0
 readValue (reading.OutputShort needed) = needed
 
 abbrev pub ofRead : FrameRead → Numbers
-ofRead (read.Taken length) = content length
+ofRead (read.Taken bytes) = content bytes
 ofRead (read.Refused r) = refused (readNumber r) (readValue r)
 
 -- the rules' answers in the same numbers

@@ -7,7 +7,7 @@ use Prim.Native.Nat.{ℕ, _+_, _-_, _*_, _/_, _^_, _<_, _≤_}
 use native.Mathlib.Omega.{arith}
 use lib.Dec.{eqb}
 use lib.ListN.{length, length-drop, take-append-drop}
-use Rattle.bits.specs.Strings.{xor, zeros, same}
+use Rattle.bits.specs.Strings.{xorBits, zeros, same}
 use Rattle.bits.specs.Bytes.{lowBits, bitsOf, packInto}
 use lib.Seq.{slice}
 use Rattle.bits.proofs.Bytes.{lowBits-injective}
@@ -57,7 +57,7 @@ module _ (j : ℕ) (m : Parameters) (o : OfWidth (8 + j) m) (n : ℕ) (s : List 
       entered-by j p wide start (packInto n s) t r fits
       ∙ ap₂ (enter p) began (bitsOf-packInto n s size)
       ∙ enter-is-formula (8 + j) p (m .start) s (omega arith) wide (o .start-length)
-      ∙ ap (λ k. remainder p (xor (s ++ zeros k) (m .start ++ zeros (length s)))) (sym wide)
+      ∙ ap (λ k. remainder p (xorBits (s ++ zeros k) (m .start ++ zeros (length s)))) (sym wide)
 
   pub remainder-right : {residue : List Bool} → Receives m (8 + j) residue → width m ≤ 8 * n → (fixed : ℕ) → fixed < 2 ^ (8 + j) → lowBits (8 + j) fixed ≡ residue
       → {start register : ℕ} {table : List ℕ} → register < 2 ^ (8 + j) → lowBits (8 + j) start ≡ m .start → start < 2 ^ (8 + j)

@@ -6,7 +6,7 @@ use Prim.Native.Nat.{ℕ, _%_, _≤_}
 use mathlib.Core.Bool.{Bool}
 use mathlib.Core.List.{List, [], _∷_}
 use lib.ListN.{length}
-use Rattle.bits.specs.Strings.{xor}
+use Rattle.bits.specs.Strings.{xorBits}
 use Rattle.bits.specs.Differences.{consIf, setFrom, differing, Apart, Burst}
 
 -- the lines of one method: for methods 1 and 2, under one parity setting
@@ -65,7 +65,7 @@ chosen (b ∷ bs) (n ∷ ns) = consIf b n (chosen bs ns)
 -- with one framing each differing bit is a checked bit: they are the differing checked bits, in number and in order
 abbrev pub DifferWhereChecked : Lines → Type 0
 DifferWhereChecked L =
-    (A B : L .Line) → SameFraming L A B → (differingBits L A B ≡ chosen (xor (L .checkedBits A) (L .checkedBits B)) (checkedPlaces L A))
+    (A B : L .Line) → SameFraming L A B → (differingBits L A B ≡ chosen (xorBits (L .checkedBits A) (L .checkedBits B)) (checkedPlaces L A))
     × (distance L A B ≡ length (differingChecked L A B))
 
 -- and equal checked bits mean equal lines

@@ -12,9 +12,9 @@ use lib.Dec.{T, leb}
 use borrow.Author.Tests.{leb-true, leb-false}
 use lib.ListN.{length}
 use lib.Pow.{pow-pos, pow-mono, shr-lt}
-use Rattle.bits.specs.Strings.{xor, zeros, same}
+use Rattle.bits.specs.Strings.{xorBits, zeros, same}
 use Rattle.bits.specs.Bytes.{lowBits}
-use Rattle.bits.proofs.Strings.{same-sound, xor-four}
+use Rattle.bits.proofs.Strings.{same-sound, xorBits-four}
 use Rattle.bits.proofs.Bytes.{length-lowBits, lowBits-append, lowBits-xor, lowBits-zero, lowBits-injective}
 use Rattle.bits.proofs.Tests.{every, every-at}
 use Rattle.registers.specs.Register.{enter, entered}
@@ -32,7 +32,7 @@ sums-four a b c d =
     lowBits-injective w (bitXor (bitXor a b) (bitXor c d)) (bitXor (bitXor a c) (bitXor b d))
     (xor-lt w (bitXor a b) (bitXor c d) (xor-lt w a b la lb) (xor-lt w c d lc ld))
     (xor-lt w (bitXor a c) (bitXor b d) (xor-lt w a c la lc) (xor-lt w b d lb ld))
-    (apart a b c d ∙ xor-four (lowBits w a) (lowBits w b) (lowBits w c) (lowBits w d) ∙ sym (apart a c b d))
+    (apart a b c d ∙ xorBits-four (lowBits w a) (lowBits w b) (lowBits w c) (lowBits w d) ∙ sym (apart a c b d))
   where
     w : ℕ
     w = a + b + c + d
@@ -52,8 +52,8 @@ sums-four a b c d =
     ld : d < 2 ^ w
     ld = fits d (omega arith)
 
-    apart : (x y z u : ℕ) → lowBits w (bitXor (bitXor x y) (bitXor z u)) ≡ xor (xor (lowBits w x) (lowBits w y)) (xor (lowBits w z) (lowBits w u))
-    apart x y z u = lowBits-xor w (bitXor x y) (bitXor z u) ∙ ap₂ xor (lowBits-xor w x y) (lowBits-xor w z u)
+    apart : (x y z u : ℕ) → lowBits w (bitXor (bitXor x y) (bitXor z u)) ≡ xorBits (xorBits (lowBits w x) (lowBits w y)) (xorBits (lowBits w z) (lowBits w u))
+    apart x y z u = lowBits-xor w (bitXor x y) (bitXor z u) ∙ ap₂ xorBits (lowBits-xor w x y) (lowBits-xor w z u)
 
 times-power : (k x y : ℕ) → bitXor x y * 2 ^ k ≡ bitXor (x * 2 ^ k) (y * 2 ^ k)
 times-power k x y =
@@ -108,13 +108,13 @@ number-fits (onward a b) n t h = number-fits b (width n a) (number a t) (number-
 -- ---- two maps into strings that keep sums
 
 abbrev Additive : (ℕ → List Bool) → Type 0
-Additive f = (a b : ℕ) → f (bitXor a b) ≡ xor (f a) (f b)
+Additive f = (a b : ℕ) → f (bitXor a b) ≡ xorBits (f a) (f b)
 
 agree : (f g : ℕ → List Bool) → Additive f → Additive g → f 0 ≡ g 0 → (n : ℕ) → ((k : ℕ) → k < n → f (2 ^ k) ≡ g (2 ^ k)) → (t : ℕ) → t < 2 ^ n → f t ≡ g t
 agree f g af ag none zero units t h = let e : t ≡ 0 = omega arith in ap f e ∙ none ∙ ap g (sym e)
 agree f g af ag none (suc n) units t h =
     ap f (sym parts) ∙ af (a * 2 ^ n) b
-    ∙ ap₂ xor (bit a (shr-lt 1 n (rw (one-add n) h))) (agree f g af ag none n (λ k l. units k (omega arith)) b (mod-lt t (pow-pos n)))
+    ∙ ap₂ xorBits (bit a (shr-lt 1 n (rw (one-add n) h))) (agree f g af ag none n (λ k l. units k (omega arith)) b (mod-lt t (pow-pos n)))
     ∙ sym (ag (a * 2 ^ n) b) ∙ ap g parts
   where
     a : ℕ
@@ -158,7 +158,7 @@ module _ (w j : ℕ) (p : List Bool) (m : WordMap) (wide : length p ≡ w) (sixt
       ap (λ n. lowBits n register) (sym sixty-four) ∙ lowBits-append w j register
       ∙ ap (λ z. r ++ z) (ap (lowBits j) (div-eq-of-lt fits) ∙ lowBits-zero j) in
       in-empty (bitXor register word) (xor-lt 64 register word (lt-of-lt-of-le fits (pow-mono narrow)) small)
-      ∙ ap (entered p) (lowBits-xor 64 register word ∙ ap (λ z. xor z v) long)
-      ∙ ap (entered p) (sym (append-nil (xor (r ++ zeros j) v)))
+      ∙ ap (entered p) (lowBits-xor 64 register word ∙ ap (λ z. xorBits z v) long)
+      ∙ ap (entered p) (sym (append-nil (xorBits (r ++ zeros j) v)))
       ∙ sym (begins p r v [] j (length-lowBits w register ∙ sym wide) (length-lowBits 64 word ∙ sym sixty-four ∙ ap (λ n. n + j) (sym wide)))
       ∙ ap (enter p r) (append-nil v)

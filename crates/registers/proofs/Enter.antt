@@ -5,8 +5,8 @@ use native.Mathlib.Omega.{arith}
 use mathlib.Core.Bool.{Bool, true, false}
 use mathlib.Core.List.{List, [], _∷_, _++_, append-assoc}
 use lib.ListN.{length, length-append, length-replicate}
-use Rattle.bits.specs.Strings.{add, xor, zeros}
-use Rattle.bits.proofs.Strings.{add-comm, add-assoc, add-left-comm, zeros-snoc, length-zeros, xor-comm, xor-zeros, xor-cancel}
+use Rattle.bits.specs.Strings.{add, xorBits, zeros}
+use Rattle.bits.proofs.Strings.{add-comm, add-assoc, add-left-comm, zeros-snoc, length-zeros, xorBits-comm, xorBits-zeros, xorBits-cancel}
 use Rattle.division.specs.Division.{step, divide, remainder, power, scale}
 use Rattle.division.proofs.Linear.{length-step, step-linear, length-divide, divide-linear, remainder-append, remainder-xor}
 use Rattle.division.proofs.Zeros.{divide-zeros, leading, remainder-full}
@@ -24,12 +24,12 @@ add-four : (a b c d : Bool) → add (add a b) (add c d) ≡ add (add a c) (add b
 add-four a b c d = rw (add-assoc a b (add c d), add-left-comm b c d, add-assoc a c (add b d))
 
 enterBit-linear : (p r s : List Bool) (b c : Bool) → length r ≡ length p → length s ≡ length p
-    → enterBit p (xor r s) (add b c) ≡ xor (enterBit p r b) (enterBit p s c)
+    → enterBit p (xorBits r s) (add b c) ≡ xorBits (enterBit p r b) (enterBit p s c)
 enterBit-linear p [] [] b c h k = refl
 enterBit-linear p [] (u ∷ s) b c h k = absurd (omega arith)
 enterBit-linear p (t ∷ r) [] b c h k = absurd (omega arith)
 enterBit-linear p (t ∷ r) (u ∷ s) b c h k =
-    ap (λ x. step p (x ∷ xor r s) false) (add-four t u b c) ∙ step-linear p (add t b ∷ r) (add u c ∷ s) false false h k
+    ap (λ x. step p (x ∷ xorBits r s) false) (add-four t u b c) ∙ step-linear p (add t b ∷ r) (add u c ∷ s) false false h k
 
 -- a zero enters as in division
 enterBit-zero : (p r : List Bool) → enterBit p r false ≡ step p r false
@@ -49,13 +49,13 @@ enter-append p r [] d = refl
 enter-append p r (b ∷ c) d = enter-append p (enterBit p r b) c d
 
 pub enter-linear : (p r s c d : List Bool) → length r ≡ length p → length s ≡ length p → length c ≡ length d
-    → enter p (xor r s) (xor c d) ≡ xor (enter p r c) (enter p s d)
+    → enter p (xorBits r s) (xorBits c d) ≡ xorBits (enter p r c) (enter p s d)
 unfolding enter
 enter-linear p r s [] [] h k l = refl
 enter-linear p r s [] (y ∷ d) h k l = absurd (omega arith)
 enter-linear p r s (x ∷ c) [] h k l = absurd (omega arith)
 enter-linear p r s (x ∷ c) (y ∷ d) h k l =
-    ap (λ z. enter p z (xor c d)) (enterBit-linear p r s x y h k)
+    ap (λ z. enter p z (xorBits c d)) (enterBit-linear p r s x y h k)
     ∙ enter-linear p (enterBit p r x) (enterBit p s y) c d (length-enterBit p r x h) (length-enterBit p s y k) (omega arith)
 
 pub enter-zeros : (p r : List Bool) (n : ℕ) → enter p r (zeros n) ≡ divide p r (zeros n)
@@ -81,14 +81,14 @@ lowest p n true h =
     ∙ ap (remainder p) (append-assoc (zeros n) (true ∷ []) (zeros (length p)))
     ∙ leading p n (true ∷ zeros (length p)) ∙ power-width p
 
-enterBit-scale : (p r : List Bool) (b : Bool) → length r ≡ length p → enterBit p r b ≡ xor (step p r false) (scale b p)
+enterBit-scale : (p r : List Bool) (b : Bool) → length r ≡ length p → enterBit p r b ≡ xorBits (step p r false) (scale b p)
 enterBit-scale p [] b h = refl
 enterBit-scale p (t ∷ r) false h =
     let e = step p (t ∷ r) false in
-    enterBit-zero p (t ∷ r) ∙ sym (xor-comm e (zeros (length p)) ∙ xor-zeros (length p) e (length-step p (t ∷ r) false h))
-enterBit-scale p (false ∷ r) true h = xor-comm p (r ++ false ∷ [])
+    enterBit-zero p (t ∷ r) ∙ sym (xorBits-comm e (zeros (length p)) ∙ xorBits-zeros (length p) e (length-step p (t ∷ r) false h))
+enterBit-scale p (false ∷ r) true h = xorBits-comm p (r ++ false ∷ [])
 enterBit-scale p (true ∷ r) true h =
-    sym (xor-comm (xor p (r ++ false ∷ [])) p ∙ xor-cancel p (r ++ false ∷ []) (simp length-append (omega arith)))
+    sym (xorBits-comm (xorBits p (r ++ false ∷ [])) p ∙ xorBits-cancel p (r ++ false ∷ []) (simp length-append (omega arith)))
 
 brought-up : (p r : List Bool) (b : Bool) → 0 < length p → length r ≡ length p
     → divide p (step p r b) (zeros (length p)) ≡ enterBit p (divide p r (zeros (length p))) b
@@ -99,10 +99,10 @@ brought-up (x ∷ p′) r b w h =
     let z = zeros (length p) in
     let lz = length-zeros (length p) in
     ap (λ y. divide p y z)
-    (ap (λ y. step p y b) (sym (xor-comm r z ∙ xor-zeros (length p) r h)) ∙ step-linear p r z false b h lz)
-    ∙ ap (divide p (xor (step p r false) (step p z b))) (sym (xor-zeros (length p) z lz))
+    (ap (λ y. step p y b) (sym (xorBits-comm r z ∙ xorBits-zeros (length p) r h)) ∙ step-linear p r z false b h lz)
+    ∙ ap (divide p (xorBits (step p r false) (step p z b))) (sym (xorBits-zeros (length p) z lz))
     ∙ divide-linear p (step p r false) (step p z b) z z (length-step p r false h) (length-step p z b lz) refl
-    ∙ ap₂ xor (divide-slide p r (length p)) (lowest p n b refl)
+    ∙ ap₂ xorBits (divide-slide p r (length p)) (lowest p n b refl)
     ∙ sym (enterBit-scale p (divide p r z) b (length-divide p r z h))
 
 all-brought-up : (p r c : List Bool) → 0 < length p → length r ≡ length p
@@ -124,13 +124,13 @@ enter-only-zeros p r k h =
     enter-zeros p r k ∙ ap (λ z. divide p z (zeros k)) (sym (remainder-full p r h)) ∙ sym (remainder-append p r (zeros k))
 
 enter-formula : (p r c : List Bool) → 0 < length p → length r ≡ length p
-    → enter p r c ≡ remainder p (xor (c ++ zeros (length p)) (r ++ zeros (length c)))
+    → enter p r c ≡ remainder p (xorBits (c ++ zeros (length p)) (r ++ zeros (length c)))
 enter-formula p r c w h =
     let k = length c in
     let z = zeros (length p) in
-    ap₂ (enter p) (sym (xor-zeros (length p) r h)) (sym (xor-comm c (zeros k) ∙ xor-zeros k c refl))
+    ap₂ (enter p) (sym (xorBits-zeros (length p) r h)) (sym (xorBits-comm c (zeros k) ∙ xorBits-zeros k c refl))
     ∙ enter-linear p z r c (zeros k) (length-zeros (length p)) h (sym (length-zeros k))
-    ∙ ap₂ xor (enter-from-zeros p c w) (enter-only-zeros p r k h)
+    ∙ ap₂ xorBits (enter-from-zeros p c w) (enter-only-zeros p r k h)
     ∙ sym (remainder-xor p (c ++ z) (r ++ zeros k) (simp (length-append, length-replicate) (omega arith)))
 
 pub enter-is-formula : EnterIsFormula

@@ -9,9 +9,9 @@ use lib.Bits.{bitXor, xor-lt}
 use lib.Dec.{lit<}
 use lib.ListN.{length, getD, length-append, length-replicate}
 use lib.Pow.{shr-lt, shr-le}
-use Rattle.bits.specs.Strings.{xor, zeros}
+use Rattle.bits.specs.Strings.{xorBits, zeros}
 use Rattle.bits.specs.Bytes.{lowBits, bitsOf}
-use Rattle.bits.proofs.Strings.{length-zeros, length-xor, xor-comm, xor-zeros, xor-cancel, xor-append}
+use Rattle.bits.proofs.Strings.{length-zeros, length-xor, xorBits-comm, xorBits-zeros, xorBits-cancel, xorBits-append}
 use Rattle.bits.proofs.Bytes.{length-lowBits, lowBits-append, lowBits-mod, lowBits-zero, lowBits-xor, lowBits-value, value-lt}
 use Rattle.division.specs.Division.{divide}
 use Rattle.division.proofs.Linear.{length-divide}
@@ -35,17 +35,17 @@ enter-self p (b ∷ m) s =
 
 -- what the register's first bits and the bits give, and the rest of the register, moved
 enter-group : (p lo hi m : List Bool) → length lo ≡ length m → length lo + length hi ≡ length p
-    → enter p (lo ++ hi) m ≡ xor (divide p (xor lo m ++ zeros (length hi)) (zeros (length m))) (hi ++ zeros (length m))
+    → enter p (lo ++ hi) m ≡ xorBits (divide p (xorBits lo m ++ zeros (length hi)) (zeros (length m))) (hi ++ zeros (length m))
 enter-group p lo hi m h w =
     let k = length m in
-    let lx : length (xor lo m) ≡ k = length-xor lo m h in
-    let x = xor lo m ++ zeros (length hi) in
-    let e : xor x (m ++ hi) ≡ lo ++ hi =
-    xor-append (xor lo m) m (zeros (length hi)) hi lx
-    ∙ ap₂ _++_ (xor-comm (xor lo m) m ∙ ap (xor m) (xor-comm lo m) ∙ xor-cancel m lo h) (xor-zeros (length hi) hi refl) in
-    ap₂ (enter p) (sym e) (sym (xor-zeros k m refl))
+    let lx : length (xorBits lo m) ≡ k = length-xor lo m h in
+    let x = xorBits lo m ++ zeros (length hi) in
+    let e : xorBits x (m ++ hi) ≡ lo ++ hi =
+    xorBits-append (xorBits lo m) m (zeros (length hi)) hi lx
+    ∙ ap₂ _++_ (xorBits-comm (xorBits lo m) m ∙ ap (xorBits m) (xorBits-comm lo m) ∙ xorBits-cancel m lo h) (xorBits-zeros (length hi) hi refl) in
+    ap₂ (enter p) (sym e) (sym (xorBits-zeros k m refl))
     ∙ enter-linear p x (m ++ hi) (zeros k) m (simp (length-append, length-replicate, lx) (omega arith)) (simp length-append (omega arith)) (length-zeros k)
-    ∙ ap₂ xor (enter-zeros p x k) (enter-self p m hi)
+    ∙ ap₂ xorBits (enter-zeros p x k) (enter-self p m hi)
 
 -- ---- a byte
 
@@ -53,12 +53,12 @@ module _ (j : ℕ) (p : List Bool) (wide : length p ≡ 8 + j) where
   -- the register as a number: its low byte meets the byte, its other bytes move down
   enter-byte : (register byte : ℕ) → register < 2 ^ (8 + j)
       → enter p (lowBits (8 + j) register) (lowBits 8 byte)
-      ≡ xor (divide p (lowBits (8 + j) (bitXor register byte % 256)) (zeros 8)) (lowBits (8 + j) (register / 256))
+      ≡ xorBits (divide p (lowBits (8 + j) (bitXor register byte % 256)) (zeros 8)) (lowBits (8 + j) (register / 256))
   enter-byte register byte fits =
       let lo = lowBits 8 register in
       let hi = lowBits j (register / 256) in
       let m = lowBits 8 byte in
-      let low : lowBits (8 + j) (bitXor register byte % 256) ≡ xor lo m ++ zeros j =
+      let low : lowBits (8 + j) (bitXor register byte % 256) ≡ xorBits lo m ++ zeros j =
       lowBits-append 8 j (bitXor register byte % 256)
       ∙ ap₂ _++_ (lowBits-mod 8 (bitXor register byte) ∙ lowBits-xor 8 register byte)
       (ap (lowBits j) (div-eq-of-lt (mod-lt (bitXor register byte) (lit< tt))) ∙ lowBits-zero j) in
@@ -69,8 +69,8 @@ module _ (j : ℕ) (p : List Bool) (wide : length p ≡ 8 + j) where
       ap (λ z. enter p z m) (lowBits-append 8 j register)
       ∙ enter-group p lo hi m (length-lowBits 8 register ∙ sym (length-lowBits 8 byte))
       (omega (arith, length-lowBits 8 register, length-lowBits j (register / 256)))
-      ∙ ap₂ (λ a b. xor (divide p (xor lo m ++ zeros a) (zeros b)) (hi ++ zeros b)) (length-lowBits j (register / 256)) (length-lowBits 8 byte)
-      ∙ ap₂ (λ a b. xor (divide p a (zeros 8)) b) (sym low) (sym high)
+      ∙ ap₂ (λ a b. xorBits (divide p (xorBits lo m ++ zeros a) (zeros b)) (hi ++ zeros b)) (length-lowBits j (register / 256)) (length-lowBits 8 byte)
+      ∙ ap₂ (λ a b. xorBits (divide p a (zeros 8)) b) (sym low) (sym high)
 
 -- ---- the table
 
@@ -113,7 +113,7 @@ module _ (j : ℕ) (p : List Bool) (wide : length p ≡ 8 + j) where
   table-enters-byte register byte fits =
       let k = bitXor register byte % 256 in
       lowBits-xor (8 + j) (getD (tableOf (8 + j) p) k 0) (register / 256)
-      ∙ ap (λ z. xor z (lowBits (8 + j) (register / 256))) (ap (lowBits (8 + j)) (byte-entry register byte) ∙ entry-bits (8 + j) p wide k)
+      ∙ ap (λ z. xorBits z (lowBits (8 + j) (register / 256))) (ap (lowBits (8 + j)) (byte-entry register byte) ∙ entry-bits (8 + j) p wide k)
       ∙ sym (enter-byte j p wide register byte fits)
 
 pub table-enters : TableEnters

@@ -7,9 +7,9 @@ use mathlib.Core.Bool.{Bool, true, false}
 use mathlib.Core.List.{List, [], _∷_, _++_, append-assoc, append-nil}
 use lib.Dec.{eqb}
 use lib.ListN.{length, length-append}
-use Rattle.bits.specs.Strings.{add, xor, zeros}
+use Rattle.bits.specs.Strings.{add, xorBits, zeros}
 use Rattle.bits.specs.Bytes.{lowBits, bitsOf}
-use Rattle.bits.proofs.Strings.{length-xor, xor-comm, xor-assoc, xor-zeros, xor-append}
+use Rattle.bits.proofs.Strings.{length-xor, xorBits-comm, xorBits-assoc, xorBits-zeros, xorBits-append}
 use Rattle.bits.proofs.Bytes.{length-lowBits, lowBits-append}
 use Rattle.division.specs.Division.{step, divide, remainder}
 use Rattle.division.specs.Generators.{coefficients}
@@ -21,7 +21,7 @@ use Rattle.block.proofs.CheckLaws.{length-sums}
 -- of each of the eight bits, its sum modulo 2 over the bytes
 abbrev pub allSums : List ℕ → List Bool
 allSums [] = zeros 8
-allSums (b ∷ bs) = xor (lowBits 8 b) (allSums bs)
+allSums (b ∷ bs) = xorBits (lowBits 8 b) (allSums bs)
 
 pub length-all : (x : List ℕ) → length (allSums x) ≡ 8
 length-all [] = refl
@@ -42,7 +42,7 @@ one-more-sums (b ∷ x) = go (one-more-byte b) (one-more-sums x)
   where
     go : OneMore (lowBits 7 b) (lowBits 8 b) → OneMore (columnSums x) (allSums x) → OneMore (columnSums (b ∷ x)) (allSums (b ∷ x))
     go (s, e) (t, f) =
-        (add s t, ap₂ xor e f ∙ xor-append (lowBits 7 b) (columnSums x) (s ∷ []) (t ∷ []) (length-lowBits 7 b ∙ sym (length-sums x)))
+        (add s t, ap₂ xorBits e f ∙ xorBits-append (lowBits 7 b) (columnSums x) (s ∷ []) (t ∷ []) (length-lowBits 7 b ∙ sym (length-sums x)))
 
 -- ---- they are the remainder by x^8 + 1
 
@@ -51,7 +51,7 @@ divisor = coefficients 8 (0 ∷ [])
 
 step-rotates : (h : Bool) (t : List Bool) → length t ≡ 7 → step divisor (h ∷ t) false ≡ t ++ h ∷ []
 step-rotates false t e = refl
-step-rotates true t e = xor-append (zeros 7) t (true ∷ []) (false ∷ []) (sym e) ∙ ap (λ z. z ++ true ∷ []) (xor-zeros 7 t e)
+step-rotates true t e = xorBits-append (zeros 7) t (true ∷ []) (false ∷ []) (sym e) ∙ ap (λ z. z ++ true ∷ []) (xorBits-zeros 7 t e)
 
 divide-rotates : (u v : List Bool) → length u + length v ≡ 8 → divide divisor (u ++ v) (zeros (length u)) ≡ v ++ u
 unfolding divide
@@ -61,24 +61,24 @@ divide-rotates (h ∷ u) v e =
     ∙ divide-rotates u (v ++ h ∷ []) (omega (arith, length-append v (h ∷ []))) ∙ append-assoc v (h ∷ []) u
 
 -- a register of eight bits, after eight bits more, is their sum
-pub divide-eight : (r c : List Bool) → length r ≡ 8 → length c ≡ 8 → divide divisor r c ≡ xor r c
+pub divide-eight : (r c : List Bool) → length r ≡ 8 → length c ≡ 8 → divide divisor r c ≡ xorBits r c
 unfolding remainder
 divide-eight r c h k =
-    ap₂ (divide divisor) (sym (xor-comm r (zeros 8) ∙ xor-zeros 8 r h)) (sym (xor-zeros 8 c k))
+    ap₂ (divide divisor) (sym (xorBits-comm r (zeros 8) ∙ xorBits-zeros 8 r h)) (sym (xorBits-zeros 8 c k))
     ∙ divide-linear divisor r (zeros 8) (zeros 8) c h refl (sym k)
-    ∙ ap₂ xor
+    ∙ ap₂ xorBits
     (ap₂ (λ z n. divide divisor z (zeros n)) (sym (append-nil r)) (sym h) ∙ divide-rotates r [] (omega arith))
     (remainder-full divisor c k)
 
-divide-bytes : (r : List Bool) (x : List ℕ) → length r ≡ 8 → divide divisor r (bitsOf x) ≡ xor r (allSums x)
+divide-bytes : (r : List Bool) (x : List ℕ) → length r ≡ 8 → divide divisor r (bitsOf x) ≡ xorBits r (allSums x)
 unfolding bitsOf divide
-divide-bytes r [] h = sym (xor-comm r (zeros 8) ∙ xor-zeros 8 r h)
+divide-bytes r [] h = sym (xorBits-comm r (zeros 8) ∙ xorBits-zeros 8 r h)
 divide-bytes r (b ∷ x) h =
     divide-append divisor r (lowBits 8 b) (bitsOf x)
     ∙ ap (λ z. divide divisor z (bitsOf x)) (divide-eight r (lowBits 8 b) h (length-lowBits 8 b))
-    ∙ divide-bytes (xor r (lowBits 8 b)) x (length-xor r (lowBits 8 b) (h ∙ sym (length-lowBits 8 b)) ∙ length-lowBits 8 b)
-    ∙ xor-assoc r (lowBits 8 b) (allSums x)
+    ∙ divide-bytes (xorBits r (lowBits 8 b)) x (length-xor r (lowBits 8 b) (h ∙ sym (length-lowBits 8 b)) ∙ length-lowBits 8 b)
+    ∙ xorBits-assoc r (lowBits 8 b) (allSums x)
 
 pub remainder-bytes : (x : List ℕ) → remainder divisor (bitsOf x) ≡ allSums x
 unfolding remainder
-remainder-bytes x = divide-bytes (zeros 8) x refl ∙ xor-zeros 8 (allSums x) (length-all x)
+remainder-bytes x = divide-bytes (zeros 8) x refl ∙ xorBits-zeros 8 (allSums x) (length-all x)

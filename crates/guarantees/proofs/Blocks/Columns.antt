@@ -6,10 +6,10 @@ use native.Mathlib.Omega.{arith}
 use mathlib.Core.Bool.{Bool, true, false}
 use mathlib.Core.List.{List, [], _∷_, _++_}
 use lib.ListN.{length, length-append, length-replicate}
-use Rattle.bits.specs.Strings.{add, xor, zeros, weight, parity}
+use Rattle.bits.specs.Strings.{add, xorBits, zeros, weight, parity}
 use Rattle.bits.specs.Bytes.{lowBits, bitsOf, digit}
 use Rattle.bits.specs.Differences.{Burst, differing}
-use Rattle.bits.proofs.Strings.{length-xor, xor-comm, xor-self, xor-injective, equal-of-xor, weight-append, weight-zeros, weight-zero, weight-parity, parity-snoc, parity-xor}
+use Rattle.bits.proofs.Strings.{length-xor, xorBits-comm, xorBits-self, xorBits-injective, equal-of-xor, weight-append, weight-zeros, weight-zero, weight-parity, parity-snoc, parity-xor}
 use Rattle.bits.proofs.Bytes.{length-lowBits, length-bitsOf, bitsOf-xor}
 use Rattle.bits.proofs.Differences.{burst-window}
 use Rattle.division.specs.Division.{divide, remainder, Divides}
@@ -35,13 +35,13 @@ equal-parities p (a ∷ x) (b ∷ y) l h k = one-byte a b (h .0 ∙ sym (k .0)) 
 
 -- in how many bits they differ
 abbrev pub distanceOf : List ℕ → List ℕ → ℕ
-distanceOf x y = weight (xor (bitsOf x) (bitsOf y))
+distanceOf x y = weight (xorBits (bitsOf x) (bitsOf y))
 
 abbrev byteDistance : ℕ → ℕ → ℕ
-byteDistance a b = weight (xor (lowBits 8 a) (lowBits 8 b))
+byteDistance a b = weight (xorBits (lowBits 8 a) (lowBits 8 b))
 
 distance-cons : (a b : ℕ) (x y : List ℕ) → distanceOf (a ∷ x) (b ∷ y) ≡ byteDistance a b + distanceOf x y
-distance-cons a b x y = ap weight (bitsOf-xor a b x y) ∙ weight-append (xor (lowBits 8 a) (lowBits 8 b)) (xor (bitsOf x) (bitsOf y))
+distance-cons a b x y = ap weight (bitsOf-xor a b x y) ∙ weight-append (xorBits (lowBits 8 a) (lowBits 8 b)) (xorBits (bitsOf x) (bitsOf y))
 
 one-length : (a b : ℕ) → length (lowBits 8 a) ≡ length (lowBits 8 b)
 one-length a b = length-lowBits 8 a ∙ sym (length-lowBits 8 b)
@@ -49,7 +49,7 @@ one-length a b = length-lowBits 8 a ∙ sym (length-lowBits 8 b)
 equal-byte : (a b : ℕ) → byteDistance a b ≡ 0 → lowBits 8 a ≡ lowBits 8 b
 equal-byte a b e =
     equal-of-xor (lowBits 8 a) (lowBits 8 b) (one-length a b)
-    (weight-zero (xor (lowBits 8 a) (lowBits 8 b)) e ∙ ap zeros (length-xor (lowBits 8 a) (lowBits 8 b) (one-length a b)))
+    (weight-zero (xorBits (lowBits 8 a) (lowBits 8 b)) e ∙ ap zeros (length-xor (lowBits 8 a) (lowBits 8 b) (one-length a b)))
 
 equal-cons : (a b : ℕ) (x y : List ℕ) → lowBits 8 a ≡ lowBits 8 b → bitsOf x ≡ bitsOf y → bitsOf (a ∷ x) ≡ bitsOf (b ∷ y)
 unfolding bitsOf
@@ -57,7 +57,7 @@ equal-cons a b x y e f = ap₂ _++_ e f
 
 no-distance : (a b : ℕ) → lowBits 8 a ≡ lowBits 8 b → byteDistance a b ≡ 0
 no-distance a b e =
-    ap (λ z. weight (xor (lowBits 8 a) z)) (sym e) ∙ ap weight (xor-self (lowBits 8 a)) ∙ weight-zeros (length (lowBits 8 a))
+    ap (λ z. weight (xorBits (lowBits 8 a) z)) (sym e) ∙ ap weight (xorBits-self (lowBits 8 a)) ∙ weight-zeros (length (lowBits 8 a))
 
 -- two bytes of one parity differ in an even number of bits
 even-sum : (s t : Bool) → s ≡ t → digit (add s t) ≡ 0
@@ -68,7 +68,7 @@ even-sum false false e = refl
 
 even-byte : (a b : ℕ) → parity (lowBits 8 a) ≡ parity (lowBits 8 b) → byteDistance a b % 2 ≡ 0
 even-byte a b e =
-    weight-parity (xor (lowBits 8 a) (lowBits 8 b)) ∙ ap digit (parity-xor (lowBits 8 a) (lowBits 8 b) (one-length a b))
+    weight-parity (xorBits (lowBits 8 a) (lowBits 8 b)) ∙ ap digit (parity-xor (lowBits 8 a) (lowBits 8 b) (one-length a b))
     ∙ even-sum (parity (lowBits 8 a)) (parity (lowBits 8 b)) e
 
 -- so unequal ones in at least two
@@ -118,17 +118,17 @@ four-bits (one-byte {x} {y} a b e h) s n = go (byteDistance a b) refl (four-bits
     byte-equal : bitsOf x ≡ bitsOf y → lowBits 8 a ≡ lowBits 8 b
     byte-equal z =
         let q : allSums x ≡ allSums y = sym (remainder-bytes x) ∙ ap (remainder divisor) z ∙ remainder-bytes y in
-        xor-injective (allSums x) (lowBits 8 a) (lowBits 8 b)
+        xorBits-injective (allSums x) (lowBits 8 a) (lowBits 8 b)
         (length-lowBits 8 a ∙ sym (length-all x))
         (length-lowBits 8 b ∙ sym (length-all x))
-        (xor-comm (allSums x) (lowBits 8 a) ∙ s ∙ xor-comm (lowBits 8 b) (allSums y) ∙ ap (λ r. xor r (lowBits 8 b)) (sym q))
+        (xorBits-comm (allSums x) (lowBits 8 a) ∙ s ∙ xorBits-comm (lowBits 8 b) (allSums y) ∙ ap (λ r. xorBits r (lowBits 8 b)) (sym q))
 
     rest-equal : lowBits 8 a ≡ lowBits 8 b → allSums x ≡ allSums y
     rest-equal q =
-        xor-injective (lowBits 8 a) (allSums x) (allSums y)
+        xorBits-injective (lowBits 8 a) (allSums x) (allSums y)
         (length-all x ∙ sym (length-lowBits 8 a))
         (length-all y ∙ sym (length-lowBits 8 a))
-        (s ∙ ap (λ z. xor z (allSums y)) (sym q))
+        (s ∙ ap (λ z. xorBits z (allSums y)) (sym q))
 
     go : (w : ℕ) → byteDistance a b ≡ w → (allSums x ≡ allSums y → (bitsOf x ≡ bitsOf y → ⊥) → 4 ≤ distanceOf x y)
         → 4 ≤ distanceOf (a ∷ x) (b ∷ y)
@@ -177,7 +177,7 @@ pub at-most-two : {x y : List ℕ} → EqualParities x y → length x ≡ length
 at-most-two {x} {y} h l e b s u =
     let v = burst-window b (bitsOf x) (bitsOf y) u in
     let one : length (bitsOf x) ≡ length (bitsOf y) = omega (arith, length-bitsOf x, length-bitsOf y) in
-    let d : Divides divisor (xor (bitsOf x) (bitsOf y)) =
+    let d : Divides divisor (xorBits (bitsOf x) (bitsOf y)) =
     difference divisor (bitsOf x) (bitsOf y) one .0 (remainder-bytes x ∙ all-equal h e ∙ sym (remainder-bytes y)) in
     let f : Divides divisor (v .bits) =
     trailing divisor (v .bits) (v .after) refl .0

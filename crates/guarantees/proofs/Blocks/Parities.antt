@@ -5,10 +5,10 @@ use native.Mathlib.Omega.{arith}
 use mathlib.Core.Bool.{Bool, true, false}
 use mathlib.Core.List.{List, [], _∷_, _++_}
 use lib.ListN.{length, drop, length-drop}
-use Rattle.bits.specs.Strings.{add, xor, zeros, weight, parity}
+use Rattle.bits.specs.Strings.{add, xorBits, zeros, weight, parity}
 use Rattle.bits.specs.Bytes.{lowBits, bitsOf}
 use Rattle.bits.specs.Differences.{consIf}
-use Rattle.bits.proofs.Strings.{append-split, xor-comm, xor-assoc, xor-zeros, xor-self}
+use Rattle.bits.proofs.Strings.{append-split, xorBits-comm, xorBits-assoc, xorBits-zeros, xorBits-self}
 use Rattle.bits.proofs.Bytes.{length-lowBits, length-bitsOf, bitsOf-one, bitsOf-injective}
 use Rattle.bits.proofs.Differences.{length-differing}
 use Rattle.block.specs.declared.Method.the-variants as method
@@ -65,14 +65,14 @@ module _ (p : Parity) where
 
 -- ---- with their check the columns sum to zero
 
-sums-append : (x y : List ℕ) → columnSums (x ++ y) ≡ xor (columnSums x) (columnSums y)
+sums-append : (x y : List ℕ) → columnSums (x ++ y) ≡ xorBits (columnSums x) (columnSums y)
 unfolding columnSums
-sums-append [] y = sym (xor-zeros 7 (columnSums y) (length-sums y))
-sums-append (b ∷ x) y = ap (xor (lowBits 7 b)) (sums-append x y) ∙ sym (xor-assoc (lowBits 7 b) (columnSums x) (columnSums y))
+sums-append [] y = sym (xorBits-zeros 7 (columnSums y) (length-sums y))
+sums-append (b ∷ x) y = ap (xorBits (lowBits 7 b)) (sums-append x y) ∙ sym (xorBits-assoc (lowBits 7 b) (columnSums x) (columnSums y))
 
 sums-one : (b : ℕ) → columnSums (b ∷ []) ≡ lowBits 7 b
 unfolding columnSums
-sums-one b = xor-comm (lowBits 7 b) (zeros 7) ∙ xor-zeros 7 (lowBits 7 b) (length-lowBits 7 b)
+sums-one b = xorBits-comm (lowBits 7 b) (zeros 7) ∙ xorBits-zeros 7 (lowBits 7 b) (length-lowBits 7 b)
 
 sums-zero : (p : Parity) (c r : List ℕ) → length r ≡ 1 → bitsOf r ≡ matrixCheck p c → columnSums (c ++ r) ≡ zeros 7
 unfolding matrixCheck
@@ -83,7 +83,7 @@ sums-zero p c (b ∷ []) l e =
     append-split (lowBits 7 b) (columnSums c) (t .0 ∷ []) (add (isOdd p) (parity (columnSums c)) ∷ [])
     (length-lowBits 7 b ∙ sym (length-sums c))
     (sym (t .1) ∙ sym (bitsOf-one b) ∙ e) .0 in
-    sums-append c (b ∷ []) ∙ ap (xor (columnSums c)) (sums-one b ∙ q) ∙ xor-self (columnSums c) ∙ ap zeros (length-sums c)
+    sums-append c (b ∷ []) ∙ ap (xorBits (columnSums c)) (sums-one b ∙ q) ∙ xorBits-self (columnSums c) ∙ ap zeros (length-sums c)
 sums-zero p c (b ∷ d ∷ r) l e = absurd (omega arith)
 
 -- ---- its lines
@@ -147,7 +147,7 @@ module _ (p : Parity) (A B : List ℕ) (t : TwoAccepted (blocks method.Matrix p)
   distance-checked : distance (blocks method.Matrix p) A B ≡ distanceOf x y
   distance-checked =
       differ-where-checked (blocks method.Matrix p) (block-bridge method.Matrix p) A B (t .same-framing) .1
-      ∙ length-differing (checkedBits method.Matrix p A) (checkedBits method.Matrix p B) ∙ ap₂ (λ a b. weight (xor a b)) bits-x bits-y
+      ∙ length-differing (checkedBits method.Matrix p A) (checkedBits method.Matrix p B) ∙ ap₂ (λ a b. weight (xorBits a b)) bits-x bits-y
 
   four : 4 ≤ distanceOf x y
   four = at-least-four pairs sums unequal

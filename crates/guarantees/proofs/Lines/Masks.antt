@@ -6,7 +6,7 @@ use native.Mathlib.Omega.{arith}
 use mathlib.Core.Bool.{Bool, true, false}
 use mathlib.Core.List.{List, [], _∷_, _++_, head-eq-of-cons-eq, tail-eq-of-cons-eq}
 use lib.ListN.{length}
-use Rattle.bits.specs.Strings.{add, xor, zeros, ones, weight}
+use Rattle.bits.specs.Strings.{add, xorBits, zeros, ones, weight}
 use Rattle.bits.specs.Differences.{consIf, setFrom}
 use Rattle.bits.proofs.Differences.{length-differing}
 use Rattle.guarantees.specs.Lines.{Lines, SameFraming, chosen, DifferWhereChecked, EqualWhereChecked}
@@ -71,19 +71,19 @@ add-self : (a : Bool) → add a a ≡ false
 add-self true = refl
 add-self false = refl
 
-pub differ-inside : {ms x y : List Bool} (n : ℕ) → Agree ms x y → setFrom n (xor x y) ≡ chosen (xor (select ms x) (select ms y)) (setFrom n ms)
+pub differ-inside : {ms x y : List Bool} (n : ℕ) → Agree ms x y → setFrom n (xorBits x y) ≡ chosen (xorBits (select ms x) (select ms y)) (setFrom n ms)
 differ-inside n nothing = refl
 differ-inside n (inside a b g) = ap (consIf (add a b) n) (differ-inside (suc n) g)
-differ-inside n (outside {ms} {x} {y} a g) = ap (λ t. consIf t n (setFrom (suc n) (xor x y))) (add-self a) ∙ differ-inside (suc n) g
+differ-inside n (outside {ms} {x} {y} a g) = ap (λ t. consIf t n (setFrom (suc n) (xorBits x y))) (add-self a) ∙ differ-inside (suc n) g
 
 weight-cons : (t : Bool) (s u : List Bool) → weight s ≡ weight u → weight (t ∷ s) ≡ weight (t ∷ u)
 weight-cons true s u e = ap suc e
 weight-cons false s u e = e
 
-pub weight-inside : {ms x y : List Bool} → Agree ms x y → weight (xor x y) ≡ weight (xor (select ms x) (select ms y))
+pub weight-inside : {ms x y : List Bool} → Agree ms x y → weight (xorBits x y) ≡ weight (xorBits (select ms x) (select ms y))
 weight-inside nothing = refl
-weight-inside (inside {ms} {x} {y} a b g) = weight-cons (add a b) (xor x y) (xor (select ms x) (select ms y)) (weight-inside g)
-weight-inside (outside {ms} {x} {y} a g) = ap (λ t. weight (t ∷ xor x y)) (add-self a) ∙ weight-inside g
+weight-inside (inside {ms} {x} {y} a b g) = weight-cons (add a b) (xorBits x y) (xorBits (select ms x) (select ms y)) (weight-inside g)
+weight-inside (outside {ms} {x} {y} a g) = ap (λ t. weight (t ∷ xorBits x y)) (add-self a) ∙ weight-inside g
 
 pub equal-inside : {ms x y : List Bool} → Agree ms x y → select ms x ≡ select ms y → x ≡ y
 equal-inside nothing e = refl
@@ -112,7 +112,7 @@ module _ (L : Lines) (bridge : Bridge L) where
   pub differ-where-checked : DifferWhereChecked L
   differ-where-checked A B s =
       let g = bridge A B s in
-      let e = ap₂ xor (g .first) (g .second) in (
+      let e = ap₂ xorBits (g .first) (g .second) in (
         differ-inside 0 (g .agree) ∙ ap (λ x. chosen x (setFrom 0 (L .isChecked A))) e,
         length-differing (L .bits A) (L .bits B) ∙ weight-inside (g .agree) ∙ ap weight e
             ∙ sym (length-differing (L .checkedBits A) (L .checkedBits B)),

@@ -3,7 +3,7 @@ use mathlib.Core.Bool.{true}
 use Rattle.block.specs.Check.{xorAll}
 use Rattle.block.proofs.Sums.{xorAll-append}
 use Rattle.block_reader.proofs.HandedOut.{header-kept, text-kept}
-use Rattle.block_reader.proofs.ReceivedChecks.{folded, xor-last}
+use Rattle.block_reader.proofs.ReceivedChecks.{folded, xorBits-last}
 use borrow.Author.Needs.{needs}
 use Rattle.block_reader.proofs.check.sum_counted.Statement.{statement}
 use Rattle.block_reader.proofs.check.sum_counted.Tie as tie
@@ -61,7 +61,7 @@ returns : tie.Need-returns
 returns c =
     let a = c .before .before .before .before .before .before .before .before .before .before .args in
     folded xorAll xorAll-append true (a .f) (a .line .now) (c .before .before .before .before .before .before .before .before .before .before .pre .0) 0 (c .before .before .before .before .before .before .sum-part .ensures) (c .before .before .before .before .sum-slice .ensures)
-    (c .before .before .before .is-clear .ensures) (c .before .sum-part2 .ensures) (xor-last _ _)
+    (c .before .before .before .is-clear .ensures) (c .before .sum-part2 .ensures) (xorBits-last _ _)
 
 pub sum-counted-spec : {M : Type 1} → statement M
 sum-counted-spec =
