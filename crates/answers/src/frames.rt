@@ -1,55 +1,53 @@
-// The refusals of the frame calls.
+// The answers of the frame calls.
+use crate::ValueNumbers;
+use crate::numbers;
+use frame::FrameRead;
+use frame::FrameWritten;
 use frame::ReadRefusal;
 use frame::WriteRefusal;
 ghost use mathlib.Core.Path.{_≡_};
-ghost use Rattle.frame.specs.Answers.{readNumber, readValue, writeNumber, writeValue};
+ghost use Rattle.frame.specs.Answers.{readNumber, readValue, writeNumber, writeValue, ofRead, ofWritten};
+ghost use Rattle.answers.specs.Numbers.{valueNumbers, frameNumbers};
 
-pub fn frame_read_number(refusal: ReadRefusal) -> usize
-    ensures { λ r. ⌜ r ≡ readNumber refusal ⌝ }
+fn read_refusal(refusal: ReadRefusal) -> ValueNumbers
+    ensures { λ r. ⌜ r ≡ valueNumbers (readNumber refusal) (readValue refusal) ⌝ }
 {
     match refusal {
-        ReadRefusal::BitsNotLent => 31,
-        ReadRefusal::NoFlags => 32,
-        ReadRefusal::ZeroMissing(_) => 33,
-        ReadRefusal::PartOfByte => 34,
-        ReadRefusal::NoContent => 35,
-        ReadRefusal::TooLong => 36,
-        ReadRefusal::WrongCheck => 37,
-        ReadRefusal::OutputShort(_) => 38,
+        ReadRefusal::BitsNotLent => numbers(31, 0),
+        ReadRefusal::NoFlags => numbers(32, 0),
+        ReadRefusal::ZeroMissing(at) => numbers(33, at.0),
+        ReadRefusal::PartOfByte => numbers(34, 0),
+        ReadRefusal::NoContent => numbers(35, 0),
+        ReadRefusal::TooLong => numbers(36, 0),
+        ReadRefusal::WrongCheck => numbers(37, 0),
+        ReadRefusal::OutputShort(needed) => numbers(38, needed),
     }
 }
 
-pub fn frame_read_value(refusal: ReadRefusal) -> usize
-    ensures { λ r. ⌜ r ≡ readValue refusal ⌝ }
+pub fn frame_read(read: FrameRead) -> ValueNumbers
+    ensures { λ r. ⌜ r ≡ frameNumbers (ofRead read) ⌝ }
 {
-    match refusal {
-        ReadRefusal::BitsNotLent => 0,
-        ReadRefusal::NoFlags => 0,
-        ReadRefusal::ZeroMissing(at) => at.0,
-        ReadRefusal::PartOfByte => 0,
-        ReadRefusal::NoContent => 0,
-        ReadRefusal::TooLong => 0,
-        ReadRefusal::WrongCheck => 0,
-        ReadRefusal::OutputShort(needed) => needed,
+    match read {
+        FrameRead::Taken(bytes) => numbers(0, bytes),
+        FrameRead::Refused(refusal) => read_refusal(refusal),
     }
 }
 
-pub fn frame_write_number(refusal: WriteRefusal) -> usize
-    ensures { λ r. ⌜ r ≡ writeNumber refusal ⌝ }
+fn write_refusal(refusal: WriteRefusal) -> ValueNumbers
+    ensures { λ r. ⌜ r ≡ valueNumbers (writeNumber refusal) (writeValue refusal) ⌝ }
 {
     match refusal {
-        WriteRefusal::NoContent => 21,
-        WriteRefusal::TooLong => 22,
-        WriteRefusal::OutputShort(_) => 23,
+        WriteRefusal::NoContent => numbers(21, 0),
+        WriteRefusal::TooLong => numbers(22, 0),
+        WriteRefusal::OutputShort(needed) => numbers(23, needed),
     }
 }
 
-pub fn frame_write_value(refusal: WriteRefusal) -> usize
-    ensures { λ r. ⌜ r ≡ writeValue refusal ⌝ }
+pub fn frame_written(written: FrameWritten) -> ValueNumbers
+    ensures { λ r. ⌜ r ≡ frameNumbers (ofWritten written) ⌝ }
 {
-    match refusal {
-        WriteRefusal::NoContent => 0,
-        WriteRefusal::TooLong => 0,
-        WriteRefusal::OutputShort(needed) => needed,
+    match written {
+        FrameWritten::Written(bits) => numbers(0, bits),
+        FrameWritten::Refused(refusal) => write_refusal(refusal),
     }
 }

@@ -1,83 +1,41 @@
-// Document 01's numbers for the answers of the block and frame calls, for programs and the C library: every answer has its number.
-use block::ReadRefusal;
-use block::Shape;
-use block::WriteRefusal;
+// The answers of the calls in document 01's numbers, as the C library and the programs give them: 0 for success or the number of
+// the refusal, and the values that go with it. Every answer has its numbers, by the rules in specs/.
+
+// Of an answer to reading a block: its number, and shape, end sign, lengths of header and text and the counted number; of a refusal
+// its place or needed bytes, then zeros.
+pub struct BlockNumbers {
+    pub number: u32,
+    pub values: [usize; 5],
+}
+
+// Of any other answer: its number, and what was written or read, or the refusal's place or needed bytes.
+pub struct ValueNumbers {
+    pub number: u32,
+    pub value: usize,
+}
+
+// Of a received number: the refusal's number or 0, and 1 for new, 2 for a repeat, 3 for lost or 0 for a refusal.
+pub struct VerdictNumbers {
+    pub number: u32,
+    pub verdict: u8,
+}
+
 ghost use mathlib.Core.Path.{_≡_};
-ghost use Rattle.block.specs.Answers.{shapeNumber, readNumber, readValue, writeNumber, writeValue};
+ghost use Rattle.answers.specs.Numbers.{valueNumbers};
 
+mod blocks;
 mod frames;
+mod verdicts;
 
-pub use frames::frame_read_number;
-pub use frames::frame_read_value;
-pub use frames::frame_write_number;
-pub use frames::frame_write_value;
+pub use blocks::block_read;
+pub use blocks::block_written;
+pub use blocks::shape_number;
+pub use frames::frame_read;
+pub use frames::frame_written;
+pub use verdicts::received;
 
-pub fn shape_number(s: Shape) -> usize
-    ensures { λ r. ⌜ r ≡ shapeNumber s ⌝ }
+fn numbers(number: u32, value: usize) -> ValueNumbers
+    ensures { λ r. ⌜ r ≡ valueNumbers number value ⌝ }
 {
-    match s {
-        Shape::Header => 1,
-        Shape::Text => 2,
-        Shape::HeaderText => 3,
-        Shape::ClearText => 4,
-        Shape::HeaderClearText => 5,
-    }
-}
-
-pub fn read_number(refusal: ReadRefusal) -> usize
-    ensures { λ r. ⌜ r ≡ readNumber refusal ⌝ }
-{
-    match refusal {
-        ReadRefusal::TooLong => 11,
-        ReadRefusal::WrongParity(_) => 12,
-        ReadRefusal::NoStart => 13,
-        ReadRefusal::OutOfPlace(_) => 14,
-        ReadRefusal::NoEnd => 15,
-        ReadRefusal::CheckLength(_) => 16,
-        ReadRefusal::TooManyCounted => 17,
-        ReadRefusal::WrongCheck => 18,
-        ReadRefusal::OutputShort(_) => 19,
-    }
-}
-
-pub fn read_value(refusal: ReadRefusal) -> usize
-    ensures { λ r. ⌜ r ≡ readValue refusal ⌝ }
-{
-    match refusal {
-        ReadRefusal::TooLong => 0,
-        ReadRefusal::WrongParity(at) => at.0,
-        ReadRefusal::NoStart => 0,
-        ReadRefusal::OutOfPlace(at) => at.0,
-        ReadRefusal::NoEnd => 0,
-        ReadRefusal::CheckLength(at) => at.0,
-        ReadRefusal::TooManyCounted => 0,
-        ReadRefusal::WrongCheck => 0,
-        ReadRefusal::OutputShort(needed) => needed,
-    }
-}
-
-pub fn write_number(refusal: WriteRefusal) -> usize
-    ensures { λ r. ⌜ r ≡ writeNumber refusal ⌝ }
-{
-    match refusal {
-        WriteRefusal::NotCarried => 1,
-        WriteRefusal::HeaderByte(_) => 2,
-        WriteRefusal::TextByte(_) => 3,
-        WriteRefusal::PartNotEmpty => 4,
-        WriteRefusal::TooManyCounted => 5,
-        WriteRefusal::OutputShort(_) => 6,
-    }
-}
-
-pub fn write_value(refusal: WriteRefusal) -> usize
-    ensures { λ r. ⌜ r ≡ writeValue refusal ⌝ }
-{
-    match refusal {
-        WriteRefusal::NotCarried => 0,
-        WriteRefusal::HeaderByte(at) => at.0,
-        WriteRefusal::TextByte(at) => at.0,
-        WriteRefusal::PartNotEmpty => 0,
-        WriteRefusal::TooManyCounted => 0,
-        WriteRefusal::OutputShort(needed) => needed,
-    }
+    ValueNumbers { number, value }
 }

@@ -1,8 +1,13 @@
 -- Document 01's numbers and values for each case of the answers. Assumes nothing.
 use Prim.Native.Nat.{ℕ}
+use mathlib.Core.List.{List}
 use lib.ListN.{length}
+use Rattle.bits.specs.Calls.{Call, called}
+use Rattle.block.specs.declared.Method.{Method}
+use Rattle.block.specs.declared.Parity.{Parity}
 use Rattle.block.specs.declared.Shape.{Shape}
 use Rattle.block.specs.declared.Shape.the-variants as shape
+use Rattle.block.specs.declared.EndSign.{EndSign}
 use Rattle.block.specs.declared.ReadRefusal.{ReadRefusal}
 use Rattle.block.specs.declared.ReadRefusal.the-variants as reading
 use Rattle.block.specs.declared.BlockRead.{BlockRead}
@@ -83,3 +88,17 @@ ofReadAnswer (reads.refusal number value) = refused number value
 abbrev pub ofWriteAnswer : writes.WriteAnswer → Numbers
 ofWriteAnswer (writes.written bytes) = line (length bytes)
 ofWriteAnswer (writes.refusal number value) = refused number value
+
+-- ---- the calls: the answer, and the lent output afterwards
+
+abbrev pub afterReading : reads.ReadAnswer → List ℕ → Call Numbers
+afterReading answer out = called (ofReadAnswer answer) (reads.readOutput answer out)
+
+abbrev pub readCall : Method → Parity → List ℕ → List ℕ → Call Numbers
+readCall m p bytes out = afterReading (reads.readBlock m p bytes (length out)) out
+
+abbrev pub afterWriting : writes.WriteAnswer → List ℕ → Call Numbers
+afterWriting answer out = called (ofWriteAnswer answer) (writes.writeOutput answer out)
+
+abbrev pub writeCall : Method → Parity → Shape → EndSign → List ℕ → List ℕ → List ℕ → Call Numbers
+writeCall m p s e head body out = afterWriting (writes.writeBlock m p s e head body (length out)) out

@@ -24,7 +24,8 @@ use Rattle.block.specs.Marks.{isHeader, isText, sift, counted, checkBytes, hasI
 use Rattle.block.specs.Check.{checkOf, checkLength}
 use Rattle.block.specs.Read.{Framed, found, unframed, askCheck, ReadAnswer, taken, partsOf, outputLength, readBlock, readOutput}
 use Rattle.block.specs.Read as rule
-use Rattle.block.specs.Answers.{block, shapeNumber, readNumber, readValue, ofReadAnswer}
+use Rattle.bits.specs.Calls.{called}
+use Rattle.block.specs.Answers.{block, refused, shapeNumber, readNumber, readValue, ofReadAnswer, afterReading}
 use Rattle.block.proofs.Lists.{map-append}
 use Rattle.block.proofs.Passed.{Passed, passed}
 use Rattle.block_framing.specs.declared.Framing.{Framing}
@@ -195,6 +196,6 @@ no-framing m p line room {w} {r} e q = go (rule.framed m p line) refl
         ap (askCheck m p line room) s ∙ ap₂ rule.refusal i j
 
 -- a refusal leaves the output
-pub kept-output : {a : ReadAnswer} {n v : ℕ} (out : List ℕ) → a ≡ rule.refusal n v → out ≡ readOutput a out
+pub is-refused : {a : ReadAnswer} {n v : ℕ} (out : List ℕ) → a ≡ rule.refusal n v → called (refused n v) out ≡ afterReading a out
 unfolding readOutput
-kept-output out q = sym (ap (λ x. readOutput x out) q)
+is-refused out q = sym (ap (λ x. afterReading x out) q)

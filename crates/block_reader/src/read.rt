@@ -16,9 +16,9 @@ ghost use mathlib.Core.List.{_++_, map};
 ghost use Prim.Native.Nat.{_+_, _≤_};
 ghost use lib.ListN.{length};
 ghost use lib.Seq.{sets};
+ghost use Rattle.bits.specs.Calls.{called};
 ghost use Rattle.block.specs.Characters.{character};
-ghost use Rattle.block.specs.Read.{readBlock, readOutput};
-ghost use Rattle.block.specs.Answers.{ofRead, ofReadAnswer};
+ghost use Rattle.block.specs.Answers.{ofRead, readCall};
 ghost use Rattle.block_framing.specs.Framings.{ofWalk, ofUnframed, headerIn, textIn, Ordered};
 ghost use Rattle.block_reader.specs.Counts.{CountsKept};
 
@@ -57,7 +57,7 @@ fn hand_out(seven: bool, f: Framing, line: &[u8], out: &mut [u8])
 
 // Document 01, part 3: reads one block.
 pub fn read_block(method: Method, parity: Parity, line: &[u8], out: &mut [u8]) -> BlockRead
-    ensures { λ r. ⌜ (ofRead r ≡ ofReadAnswer (readBlock method parity (now (line .entry)) (length (now (out .entry))))) × (now (out .exit) ≡ readOutput (readBlock method parity (now (line .entry)) (length (now (out .entry)))) (now (out .entry))) ⌝ }
+    ensures { λ r. ⌜ called (ofRead r) (now (out .exit)) ≡ readCall method parity (now (line .entry)) (now (out .entry)) ⌝ }
 {
     let walked = find_framing(method, parity, line);
     let WalkEnd::Found(f) = walked else {

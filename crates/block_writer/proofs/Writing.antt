@@ -17,7 +17,8 @@ use Rattle.block.specs.Characters.{isSeven, sent}
 use Rattle.block.specs.Check.{checkOf}
 use Rattle.block.specs.Write.{isClear, hasHeader, hasText, startSigns, innerSigns, isEmpty, escaped, countedBytes, countedLength, framedBytes, lineOf}
 use Rattle.block.specs.Write.{WriteAnswer, written, refusal, ask, askFree, writeBlock, writeOutput}
-use Rattle.block.specs.Answers.{line, refused, ofWriteAnswer}
+use Rattle.bits.specs.Calls.{called}
+use Rattle.block.specs.Answers.{line, refused, afterWriting}
 use Rattle.block.proofs.Lists.{map-append}
 use Rattle.block_writer.specs.Writing.{reservedFrom, bodyBytes, lineLength, Stored}
 use Rattle.block_writer.proofs.Free.{ask-refuses, ask-passes, text-refuses, text-passes}
@@ -180,13 +181,13 @@ module _ (m : Method) (p : Parity) (s : Shape) (e : EndSign) (head body : List �
       z ∙ ap (λ t. cond t (written l) (refusal 6 (length l))) (le-leb (length l) room (omega arith))
 
 -- the answer and the output by the rule's answer
-pub refused-by : (out : List ℕ) {a : WriteAnswer} {n v : ℕ} → a ≡ refusal n v → (refused n v ≡ ofWriteAnswer a) × (out ≡ writeOutput a out)
+pub refused-by : (out : List ℕ) {a : WriteAnswer} {n v : ℕ} → a ≡ refusal n v → called (refused n v) out ≡ afterWriting a out
 unfolding writeOutput
-refused-by out z = (ap ofWriteAnswer (sym z), ap (λ t. writeOutput t out) (sym z))
+refused-by out z = ap (λ t. afterWriting t out) (sym z)
 
 pub written-by : {a : WriteAnswer} {out after bytes : List ℕ} {r : ℕ} → a ≡ written bytes → length bytes ≤ length out → Stored out 0 bytes after r
-    → (line r ≡ ofWriteAnswer a) × (after ≡ writeOutput a out)
+    → called (line r) after ≡ afterWriting a out
 unfolding writeOutput
 written-by {out = out} {bytes = bytes} z h s =
     let g : 0 + length bytes ≡ length bytes = omega arith in
-    (ap line (s .next-is ∙ g) ∙ ap ofWriteAnswer (sym z), stored-front s h ∙ ap (λ t. writeOutput t out) (sym z))
+    ap₂ called (ap line (s .next-is ∙ g)) (stored-front s h) ∙ ap (λ t. afterWriting t out) (sym z)

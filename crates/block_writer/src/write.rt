@@ -29,10 +29,11 @@ ghost use mathlib.Core.Bool.{false, _&&_};
 ghost use Prim.Native.Nat.{_+_, _≤_};
 ghost use lib.ListN.{length};
 ghost use Rattle.bits.specs.Bytes.{pack};
+ghost use Rattle.bits.specs.Calls.{called};
 ghost use Rattle.block.specs.Characters as characters;
 ghost use Rattle.block.specs.Check.{checkOf, checkLength};
 ghost use Rattle.block.specs.Write as rule;
-ghost use Rattle.block.specs.Answers.{ofWritten, ofWriteAnswer};
+ghost use Rattle.block.specs.Answers.{ofWritten, writeCall};
 ghost use Rattle.block_writer.specs.Writing.{Stored};
 
 fn put_check(
@@ -96,7 +97,7 @@ pub fn write_block(
     text: &[u8],
     out: &mut [u8],
 ) -> BlockWritten
-    ensures { λ r. ⌜ (ofWritten r ≡ ofWriteAnswer (rule.writeBlock method parity shape end (now (header .entry)) (now (text .entry)) (length (now (out .entry))))) × (now (out .exit) ≡ rule.writeOutput (rule.writeBlock method parity shape end (now (header .entry)) (now (text .entry)) (length (now (out .entry)))) (now (out .entry))) ⌝ }
+    ensures { λ r. ⌜ called (ofWritten r) (now (out .exit)) ≡ writeCall method parity shape end (now (header .entry)) (now (text .entry)) (now (out .entry)) ⌝ }
 {
     let seven = is_seven(method);
     let clear = is_clear(shape);

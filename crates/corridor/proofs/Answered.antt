@@ -2,24 +2,30 @@
 use mathlib.Core.Path.{_≡_, ap}
 use Prim.Native.Nat.{ℕ}
 use mathlib.Core.List.{List, [], _∷_}
+use Rattle.bits.specs.Calls as rule
 use Rattle.block.specs.Answers as block
 use Rattle.frame.specs.Answers as frame
 use Rattle.number.specs.Number.{receiving}
 use Rattle.number.specs.Answers.{outcomeOf}
 use Rattle.number.specs.declared.NumberResult.{NumberResult}
-use Rattle.corridor.specs.Calls.{called, padded, blockNumber, blockValues, blockCall, frameNumber, frameValue, frameCall, verdictNumber, verdictCode, receivedBy, receiveCall}
+use Rattle.answers.specs.declared.BlockNumbers.{BlockNumbers}
+use Rattle.answers.specs.declared.ValueNumbers.{ValueNumbers}
+use Rattle.answers.specs.declared.VerdictNumbers.{VerdictNumbers}
+use Rattle.answers.specs.Numbers.{readNumbers, writtenNumbers, frameNumbers, verdictNumbers}
+use Rattle.corridor.specs.Calls.{called, valueCall, afterReadingBlock, afterWritingBlock, frameCall, receivedBy, afterReceiving, receiveCall}
 
-pub block-answered : (places : ℕ) {a b : block.Numbers} {number : ℕ} {values output after : List ℕ}
-    → a ≡ b → number ≡ blockNumber a → values ≡ padded places (blockValues a) → output ≡ after
-    → called number values output ≡ blockCall places b after
-block-answered places e n v o = cc
+module _ {out : List ℕ} where
+  module _ {a : block.Numbers} {c : rule.Call block.Numbers} (e : rule.called a out ≡ c) where
+    pub block-read : {n : BlockNumbers} → n ≡ readNumbers a → called (n .number) (n .values) out ≡ afterReadingBlock c
+    block-read f = rw f (ap afterReadingBlock e)
 
-pub frame-answered : {a b : frame.Numbers} {number value : ℕ} {output after : List ℕ}
-    → a ≡ b → number ≡ frameNumber a → value ≡ frameValue a → output ≡ after
-    → called number (value ∷ []) output ≡ frameCall b after
-frame-answered e n v o = cc
+    pub block-written : {n : ValueNumbers} → n ≡ writtenNumbers a → valueCall n out ≡ afterWritingBlock c
+    block-written f = rw f (ap afterWritingBlock e)
 
-pub received : (n c b : ℕ) (r : NumberResult) {number verdict : ℕ}
-    → outcomeOf r ≡ receiving n c b → number ≡ verdictNumber (outcomeOf r .verdict) → verdict ≡ verdictCode (outcomeOf r .verdict)
-    → called number (verdict ∷ r .after .c ∷ []) [] ≡ receiveCall n c b
-received n c b r e f g = rw (f, g) (ap receivedBy e)
+  pub frame-answered : {a : frame.Numbers} {c : rule.Call frame.Numbers} {n : ValueNumbers} → rule.called a out ≡ c → n ≡ frameNumbers a
+      → valueCall n out ≡ frameCall c
+  frame-answered e f = rw f (ap frameCall e)
+
+pub received : (n c b : ℕ) (r : NumberResult) {v : VerdictNumbers} → outcomeOf r ≡ receiving n c b → v ≡ verdictNumbers (outcomeOf r .verdict)
+    → receivedBy v (r .after .c) ≡ receiveCall n c b
+received n c b r e f = rw f (ap afterReceiving e)

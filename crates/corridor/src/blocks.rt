@@ -1,53 +1,20 @@
 // The block calls for C.
-use crate::codes::EndCode;
-use crate::codes::MethodCode;
-use crate::codes::ParityCode;
-use crate::codes::ShapeCode;
-use crate::codes::UNKNOWN_CODE;
-use crate::codes::end_of;
-use crate::codes::method_of;
-use crate::codes::parity_of;
-use crate::codes::shape_of;
-use block::Block;
-use block::BlockRead;
-use block::BlockWritten;
+use crate::UNKNOWN_CODE;
+use answers::block_read;
+use answers::block_written;
+use block_reader::read_block;
+use block_writer::write_block;
+use codes::EndCode;
+use codes::MethodCode;
+use codes::ParityCode;
+use codes::ShapeCode;
+use codes::end_of;
+use codes::method_of;
+use codes::parity_of;
+use codes::shape_of;
 ghost use mathlib.Core.Path.{_≡_};
 ghost use mathlib.Core.List.{[], _∷_};
-ghost use Rattle.block.specs.Answers.{ofRead, ofWritten};
-ghost use Rattle.corridor.specs.Calls.{called, padded, blockNumber, blockValues, readBlockCall, writeBlockCall};
-
-fn read_number(read: BlockRead) -> u32
-    ensures { λ r. ⌜ r ≡ blockNumber (ofRead read) ⌝ }
-{
-    match read {
-        BlockRead::Taken(_) => 0,
-        BlockRead::Refused(refusal) => answers::read_number(refusal) as u32,
-    }
-}
-
-// What an accepted block holds.
-fn parts_of(b: Block) -> [usize; 5]
-    ensures { λ r. ⌜ r ≡ blockValues (ofRead (BlockRead.Taken b)) ⌝ }
-{
-    let shape = b.shape;
-    let end = b.end;
-    [
-        answers::shape_number(shape),
-        block::end_byte(end) as usize,
-        b.header,
-        b.text,
-        b.counted,
-    ]
-}
-
-fn read_values(read: BlockRead) -> [usize; 5]
-    ensures { λ r. ⌜ r ≡ padded 5 (blockValues (ofRead read)) ⌝ }
-{
-    match read {
-        BlockRead::Taken(b) => parts_of(b),
-        BlockRead::Refused(refusal) => [answers::read_value(refusal), 0, 0, 0, 0],
-    }
-}
+ghost use Rattle.corridor.specs.Calls.{called, readBlockCall, writeBlockCall};
 
 // Reads one block. After a success the answer is shape, end sign, lengths of header and text, and the counted number; after a
 // refusal it is the refusal's place or needed bytes, then zeros.
@@ -68,27 +35,10 @@ pub extern "C" fn corridor_read_block(
     let ParityCode::Known(p) = parity_of(parity) else {
         return UNKNOWN_CODE;
     };
-    let read = block_reader::read_block(m, p, line, &mut *out);
-    *answer = read_values(read);
-    read_number(read)
-}
-
-fn written_number(written: BlockWritten) -> u32
-    ensures { λ r. ⌜ r ≡ blockNumber (ofWritten written) ⌝ }
-{
-    match written {
-        BlockWritten::Written(_) => 0,
-        BlockWritten::Refused(refusal) => answers::write_number(refusal) as u32,
-    }
-}
-
-fn written_value(written: BlockWritten) -> usize
-    ensures { λ r. ⌜ r ∷ [] ≡ padded 1 (blockValues (ofWritten written)) ⌝ }
-{
-    match written {
-        BlockWritten::Written(length) => length,
-        BlockWritten::Refused(refusal) => answers::write_value(refusal),
-    }
+    let read = block_read(read_block(m, p, line, &mut *out));
+    let values = read.values;
+    *answer = values;
+    read.number
 }
 
 // Writes one block. The value is the length of the line, or the refusal's place or needed bytes.
@@ -118,7 +68,7 @@ pub extern "C" fn corridor_write_block(
     let EndCode::Known(e) = end_of(end_sign) else {
         return UNKNOWN_CODE;
     };
-    let written = block_writer::write_block(m, p, s, e, header, text, &mut *out);
-    *value = written_value(written);
-    written_number(written)
+    let written = block_written(write_block(m, p, s, e, header, text, &mut *out));
+    *value = written.value;
+    written.number
 }

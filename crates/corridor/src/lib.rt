@@ -12,7 +12,6 @@ ghost use Rattle.bits.specs.Bytes.{lowBits, bitsOf};
 ghost use Rattle.cyclic.specs.Check.{checkBits, method3, method4, method5, method6};
 
 mod blocks;
-mod codes;
 mod frames;
 mod numbers;
 
@@ -21,6 +20,9 @@ pub use blocks::corridor_write_block;
 pub use frames::corridor_read_frame;
 pub use frames::corridor_write_frame;
 pub use numbers::corridor_receive;
+
+// The number of a code outside its list.
+pub(crate) const UNKNOWN_CODE: u32 = 1;
 
 #[no_mangle]
 pub extern "C" fn corridor_check_3(content: &[u8]) -> u16

@@ -1,7 +1,10 @@
 -- Document 01's numbers and values for each case of the answers. Assumes nothing.
 use Prim.Native.Nat.{ℕ}
+use mathlib.Core.List.{List}
 use lib.ListN.{length}
 use Rattle.bits.specs.Bytes.{bytesFor}
+use Rattle.bits.specs.Calls.{Call, called}
+use Rattle.frame.specs.declared.FrameMethod.{FrameMethod}
 use Rattle.frame.specs.declared.WriteRefusal.{WriteRefusal}
 use Rattle.frame.specs.declared.WriteRefusal.the-variants as writing
 use Rattle.frame.specs.declared.FrameWritten.{FrameWritten}
@@ -10,6 +13,7 @@ use Rattle.frame.specs.declared.ReadRefusal.{ReadRefusal}
 use Rattle.frame.specs.declared.ReadRefusal.the-variants as reading
 use Rattle.frame.specs.declared.FrameRead.{FrameRead}
 use Rattle.frame.specs.declared.FrameRead.the-variants as read
+use Rattle.frame.specs.Frame.{parametersOf}
 use Rattle.frame.specs.Write as writes
 use Rattle.frame.specs.Read as reads
 
@@ -66,3 +70,18 @@ ofWriteAnswer (writes.refusal number value) = refused number value
 abbrev pub ofReadAnswer : reads.ReadAnswer → Numbers
 ofReadAnswer (reads.taken bits) = content (bytesFor (length bits))
 ofReadAnswer (reads.refusal number value) = refused number value
+
+-- ---- the calls: the answer, and the lent output afterwards
+
+abbrev pub afterWriting : writes.WriteAnswer → List ℕ → Call Numbers
+afterWriting answer out = called (ofWriteAnswer answer) (writes.writeOutput answer out)
+
+abbrev pub writeCall : FrameMethod → List ℕ → List ℕ → Call Numbers
+writeCall m bytes out = afterWriting (writes.writeFrame (parametersOf m) bytes (length out)) out
+
+abbrev pub afterReading : reads.ReadAnswer → List ℕ → Call Numbers
+afterReading answer out = called (ofReadAnswer answer) (reads.readOutput answer out)
+
+-- of the told bits and the bytes lent
+abbrev pub readCall : FrameMethod → ℕ → List ℕ → List ℕ → Call Numbers
+readCall m told lent out = afterReading (reads.readFrame (parametersOf m) told lent (length out)) out

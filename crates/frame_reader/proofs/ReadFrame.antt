@@ -1,5 +1,5 @@
 -- Reading as a whole: a framing that was found, then questions 37 and 38, and the output. Assumes nothing.
-use mathlib.Core.Path.{_≡_, refl, sym, ap, _∙_}
+use mathlib.Core.Path.{_≡_, refl, sym, ap, ap₂, _∙_}
 use mathlib.Core.Bool.{Bool, true, false, cond}
 use mathlib.Core.List.{List, _++_}
 use Prim.Native.Nat.{ℕ, _+_, _*_, _-_, _/_, _%_, _<_, _≤_}
@@ -10,6 +10,7 @@ use lib.ListN.{length, take, drop}
 use lib.Seq.{slice, sets, sets-eq, length-take-le}
 use Rattle.bits.specs.Strings.{same}
 use Rattle.bits.specs.Bytes.{bitsOf, bytesFor, packInto, pack}
+use Rattle.bits.specs.Calls.{called}
 use Rattle.bits.proofs.Packing.{length-pack}
 use Rattle.cyclic.specs.Check.{Parameters, checkBits}
 use Rattle.frame.specs.declared.FrameMethod.{FrameMethod}
@@ -21,7 +22,7 @@ use Rattle.frame.specs.Stuffing.{Unstuffed, clean, missing, unstuff}
 use Rattle.frame.specs.Frame.{parametersOf, width, flag}
 use Rattle.frame.specs.Read.{Framed, ask, askZeros, between, framed, contentOf, checkIn, ReadAnswer, taken, refusal, askCheck, readBits, readFrame, readOutput}
 use Rattle.frame.specs.Read as rule
-use Rattle.frame.specs.Answers.{content, refused, readNumber, readValue, ofReadAnswer}
+use Rattle.frame.specs.Answers.{content, refused, readNumber, readValue, afterReading}
 use Rattle.frame_reader.specs.Steps.{dataOf, dataBetween, found, unframed, ofWalk, framedAnswer}
 use Rattle.frame_reader.proofs.WholeBytes.{packInto-pack}
 use Rattle.frame_reader.proofs.Questions.{sizes, answer, told-length, all-but-eight}
@@ -109,9 +110,9 @@ module _ (method : FrameMethod) (lent : List ℕ) (told : ℕ) {w : WalkEnd} (wa
 -- ---- 37 and 38
 
 -- a refusal: its numbers, and the output as it was
-pub is-refused : (out : List ℕ) {a : ReadAnswer} {number value : ℕ} → a ≡ refusal number value → (refused number value ≡ ofReadAnswer a) × (out ≡ readOutput a out)
+pub is-refused : (out : List ℕ) {a : ReadAnswer} {number value : ℕ} → a ≡ refusal number value → called (refused number value) out ≡ afterReading a out
 unfolding readOutput
-is-refused out e = (sym (ap ofReadAnswer e), sym (ap (λ x. readOutput x out) e))
+is-refused out e = sym (ap (λ x. afterReading x out) e)
 
 module _ {method : FrameMethod} {lent : List ℕ} {told end count : ℕ} (f : FramingFound method lent told end count) (out : List ℕ) {r : Bool}
     (asked : r ≡ same (checkIn (parametersOf method) (dataBetween (bitsOf lent) end)) (checkBits (parametersOf method) (contentOf (parametersOf method) (dataBetween (bitsOf lent) end))))
@@ -150,7 +151,7 @@ module _ {method : FrameMethod} {lent : List ℕ} {told end count : ℕ} (f : Fr
 
       -- a frame that is taken: its number, and the content at the start of the output
       pub is-taken : needed ≤ length out → {after : List ℕ} → after ≡ sets out 0 (packInto needed s)
-          → (content needed ≡ ofReadAnswer (readFrame m told lent (length out))) × (after ≡ readOutput (readFrame m told lent (length out)) out)
+          → called (content needed) after ≡ afterReading (readFrame m told lent (length out)) out
       unfolding readOutput
       is-taken h {after} e =
           let taken-is : readFrame m told lent (length out) ≡ taken c = answer-is ∙ simp (sym asked ∙ right, content-bytes, le-leb needed (length out) h) in
@@ -158,4 +159,4 @@ module _ {method : FrameMethod} {lent : List ℕ} {told end count : ℕ} (f : Fr
           let q : 0 + length (pack c) ≡ bytesFor (length c) = omega (arith, length-pack c) in
           let stored : after ≡ pack c ++ drop (bytesFor (length c)) out =
           e ∙ ap (sets out 0) p ∙ sets-eq (pack c) out 0 (omega (arith, content-bytes)) ∙ ap (λ k. pack c ++ drop k out) q in
-          (ap content (sym content-bytes) ∙ sym (ap ofReadAnswer taken-is), stored ∙ sym (ap (λ x. readOutput x out) taken-is))
+          ap₂ called (ap content (sym content-bytes)) stored ∙ sym (ap (λ x. afterReading x out) taken-is)

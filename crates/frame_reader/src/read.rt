@@ -7,10 +7,8 @@ use frame::FrameRead;
 use frame::ReadRefusal;
 use frame::check_width;
 ghost use mathlib.Core.Path.{_≡_};
-ghost use lib.ListN.{length};
-ghost use Rattle.frame.specs.Frame.{parametersOf};
-ghost use Rattle.frame.specs.Read.{readFrame, readOutput};
-ghost use Rattle.frame.specs.Answers.{ofRead, ofReadAnswer};
+ghost use Rattle.bits.specs.Calls.{called};
+ghost use Rattle.frame.specs.Answers.{ofRead, readCall};
 ghost use Rattle.frame_reader.specs.Steps.{ofWalk, ofUnframed};
 
 // The refusal of a walk that found no framing.
@@ -25,7 +23,7 @@ fn unframed(w: WalkEnd) -> FrameRead
 
 // Document 01, part 4: reads the frame that is the first `bits` bits of the bytes lent.
 pub fn read_frame(method: FrameMethod, bits: usize, lent: &[u8], out: &mut [u8]) -> FrameRead
-    ensures { λ r. ⌜ (ofRead r ≡ ofReadAnswer (readFrame (parametersOf method) bits (now (lent .entry)) (length (now (out .entry))))) × (now (out .exit) ≡ readOutput (readFrame (parametersOf method) bits (now (lent .entry)) (length (now (out .entry)))) (now (out .entry))) ⌝ }
+    ensures { λ r. ⌜ called (ofRead r) (now (out .exit)) ≡ readCall method bits (now (lent .entry)) (now (out .entry)) ⌝ }
 {
     let walked = find_framing(method, bits, lent);
     let WalkEnd::Found(f) = walked else {

@@ -12,6 +12,7 @@ use lib.ListN.{length, drop, set, length-append}
 use lib.Seq.{sets, sets-eq}
 use borrow.Author.Tests.{eqb-true, le-leb, lt-leb}
 use Rattle.bits.specs.Bytes.{lowBits, bitsOf, bytesFor, packInto, pack}
+use Rattle.bits.specs.Calls.{called}
 use Rattle.bits.proofs.Bytes.{length-lowBits, length-bitsOf}
 use Rattle.bits.proofs.Packing.{bitsOf-littleEndian, pack-lowBits, length-pack}
 use Rattle.cyclic.specs.Check.{Parameters, checkBits, checkedBits, method5, method6}
@@ -22,7 +23,7 @@ use Rattle.frame.specs.declared.FrameMethod.the-variants as method
 use Rattle.frame.specs.Stuffing.{isFifth, runOn, zeroIf, stuff, runAfter}
 use Rattle.frame.specs.Frame.{parametersOf, flag, enclose, frameOf}
 use Rattle.frame.specs.Write.{WriteAnswer, askRoom, writeFrame, writeOutput}
-use Rattle.frame.specs.Answers.{Numbers, frame, refused, ofWriteAnswer}
+use Rattle.frame.specs.Answers.{Numbers, frame, refused, afterWriting}
 use Rattle.zero_insertion.specs.Bytewise.{runBefore}
 use Rattle.frame_writer.specs.Steps.{Fits, position, stored, Puts, Counts}
 use Rattle.frame.proofs.Stuffing.{runOn-le}
@@ -187,26 +188,26 @@ limit-le method.Cyclic32 = omega arith
 
 -- an answer with its output, by the rule's
 abbrev Answers : Numbers → List ℕ → WriteAnswer → List ℕ → Type 0
-Answers n after rule before = (n ≡ ofWriteAnswer rule) × (after ≡ writeOutput rule before)
+Answers n after rule before = called n after ≡ afterWriting rule before
 
 module _ (s : List Bool) (out : List ℕ) where
   pub room-short : {needed : ℕ} → needed ≡ bytesFor (length s) → length out < needed → Answers (refused 23 needed) out (askRoom s (length out)) out
   unfolding writeOutput
-  room-short e h = rw (e, lt-leb (bytesFor (length s)) (length out) (omega arith)) (refl, refl)
+  room-short e h = rw (e, lt-leb (bytesFor (length s)) (length out) (omega arith)) refl
 
   pub room-enough : bytesFor (length s) ≤ length out → {bits : ℕ} → bits ≡ length s → {after : List ℕ} → after ≡ pack s ++ drop (bytesFor (length s)) out
       → Answers (frame bits) after (askRoom s (length out)) out
   unfolding writeOutput
-  room-enough h e f = rw (e, le-leb (bytesFor (length s)) (length out) h) (refl, f)
+  room-enough h e f = rw (e, f, le-leb (bytesFor (length s)) (length out) h) refl
 
 module _ (m : Parameters) (content out : List ℕ) where
   pub no-content : length content ≡ 0 → Answers (refused 21 0) out (writeFrame m content (length out)) out
   unfolding writeFrame writeOutput
-  no-content h = rw (lt-leb 1 (length content) (omega arith)) (refl, refl)
+  no-content h = rw (lt-leb 1 (length content) (omega arith)) refl
 
   pub too-long : 0 < length content → m .limit < length content → Answers (refused 22 0) out (writeFrame m content (length out)) out
   unfolding writeFrame writeOutput
-  too-long h l = rw (le-leb 1 (length content) (omega arith), lt-leb (length content) (m .limit) l) (refl, refl)
+  too-long h l = rw (le-leb 1 (length content) (omega arith), lt-leb (length content) (m .limit) l) refl
 
   pub within-limit : (n r : ℕ) {bytes after : List ℕ} {a : Numbers} → 0 < length content → length content ≤ m .limit
       → lowBits (8 * n) r ≡ checkBits m (bitsOf content) → bytes ≡ pack (lowBits (8 * n) r)

@@ -17,9 +17,10 @@ ghost use mathlib.Core.List.{_++_};
 ghost use Prim.Native.Nat.{_≤_};
 ghost use lib.ListN.{length, drop};
 ghost use Rattle.bits.specs.Bytes.{bitsOf, bytesFor, pack};
-ghost use Rattle.frame.specs.Frame.{parametersOf, enclose};
-ghost use Rattle.frame.specs.Write.{askRoom, writeFrame, writeOutput};
-ghost use Rattle.frame.specs.Answers.{ofWritten, ofWriteAnswer};
+ghost use Rattle.bits.specs.Calls.{called};
+ghost use Rattle.frame.specs.Frame.{enclose};
+ghost use Rattle.frame.specs.Write.{askRoom};
+ghost use Rattle.frame.specs.Answers.{ofWritten, afterWriting, writeCall};
 
 // Puts them at the start of the output. The bits of the frame.
 fn put_frame(content: &[u8], check: &[u8], out: &mut [u8]) -> usize
@@ -41,7 +42,7 @@ fn put_frame(content: &[u8], check: &[u8], out: &mut [u8]) -> usize
 // Question 23, then the frame. Five bits take six at most, so where the output has room for that no zero is counted.
 fn write_checked(content: &[u8], check: &[u8], out: &mut [u8]) -> FrameWritten
     requires { ⌜ (length (now content) ≤ 65536) × (length (now check) ≤ 4) ⌝ }
-    ensures { λ r. ⌜ (ofWritten r ≡ ofWriteAnswer (askRoom (enclose (bitsOf (now (content .entry)) ++ bitsOf (now (check .entry)))) (length (now (out .entry))))) × (now (out .exit) ≡ writeOutput (askRoom (enclose (bitsOf (now (content .entry)) ++ bitsOf (now (check .entry)))) (length (now (out .entry)))) (now (out .entry))) ⌝ }
+    ensures { λ r. ⌜ called (ofWritten r) (now (out .exit)) ≡ afterWriting (askRoom (enclose (bitsOf (now (content .entry)) ++ bitsOf (now (check .entry)))) (length (now (out .entry)))) (now (out .entry)) ⌝ }
 {
     let most = content.len() + (content.len() >> 2) + 16;
     if most <= out.len() {
@@ -56,7 +57,7 @@ fn write_checked(content: &[u8], check: &[u8], out: &mut [u8]) -> FrameWritten
 
 // Document 01, part 4: writes one frame.
 pub fn write_frame(method: FrameMethod, content: &[u8], out: &mut [u8]) -> FrameWritten
-    ensures { λ r. ⌜ (ofWritten r ≡ ofWriteAnswer (writeFrame (parametersOf method) (now (content .entry)) (length (now (out .entry))))) × (now (out .exit) ≡ writeOutput (writeFrame (parametersOf method) (now (content .entry)) (length (now (out .entry)))) (now (out .entry))) ⌝ }
+    ensures { λ r. ⌜ called (ofWritten r) (now (out .exit)) ≡ writeCall method (now (content .entry)) (now (out .entry)) ⌝ }
 {
     if content.len() == 0 {
         return FrameWritten::Refused(WriteRefusal::NoContent);

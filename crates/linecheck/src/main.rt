@@ -6,7 +6,6 @@ use block::BlockRead;
 use block::EndSign;
 use block::Method;
 use block::Parity;
-use block::ReadRefusal;
 use libc::STDIN_FILENO;
 use libc::STDOUT_FILENO;
 
@@ -58,10 +57,12 @@ fn print_taken(b: Block) {
     print_number(b.counted);
 }
 
-fn print_refused(r: ReadRefusal) {
+fn print_refused(read: BlockRead) {
+    let numbers = answers::block_read(read);
+    let values = numbers.values;
     io::write_all(STDOUT_FILENO, b"refused");
-    print_number(answers::read_number(r));
-    print_number(answers::read_value(r));
+    print_number(numbers.number as usize);
+    print_number(values[0]);
 }
 
 fn run(input: &[u8]) {
@@ -74,9 +75,10 @@ fn run(input: &[u8]) {
         return;
     };
     let mut out = [0u8; 16384];
-    match block_reader::read_block(m, p, &input[2..], &mut out) {
+    let read = block_reader::read_block(m, p, &input[2..], &mut out);
+    match read {
         BlockRead::Taken(b) => print_taken(b),
-        BlockRead::Refused(r) => print_refused(r),
+        BlockRead::Refused(_) => print_refused(read),
     }
 }
 

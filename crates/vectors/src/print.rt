@@ -1,10 +1,7 @@
 // The answers of the calls, printed: what was written or taken, or `refused` with document 01's number and value.
-use answers::frame_write_number;
-use answers::frame_write_value;
-use answers::read_number;
-use answers::read_value;
-use answers::write_number;
-use answers::write_value;
+use answers::block_read;
+use answers::block_written;
+use answers::frame_written;
 use block::BlockRead;
 use block::BlockWritten;
 use frame::FrameWritten;
@@ -15,9 +12,9 @@ fn print_number(n: usize) {
     io::print_decimal(STDOUT_FILENO, n as u64);
 }
 
-fn print_refused(number: usize, value: usize) {
+fn print_refused(number: u32, value: usize) {
     io::write_all(STDOUT_FILENO, b" refused");
-    print_number(number);
+    print_number(number as usize);
     print_number(value);
 }
 
@@ -29,7 +26,10 @@ pub fn print_written(label: &[u8], w: BlockWritten) {
             io::write_all(STDOUT_FILENO, b" written");
             print_number(n);
         }
-        BlockWritten::Refused(r) => print_refused(write_number(r), write_value(r)),
+        BlockWritten::Refused(_) => {
+            let numbers = block_written(w);
+            print_refused(numbers.number, numbers.value);
+        }
     }
     io::write_all(STDOUT_FILENO, b"\n");
 }
@@ -44,7 +44,11 @@ pub fn print_read(label: &[u8], r: BlockRead) {
             print_number(b.text);
             print_number(b.counted);
         }
-        BlockRead::Refused(r) => print_refused(read_number(r), read_value(r)),
+        BlockRead::Refused(_) => {
+            let numbers = block_read(r);
+            let values = numbers.values;
+            print_refused(numbers.number, values[0]);
+        }
     }
     io::write_all(STDOUT_FILENO, b"\n");
 }
@@ -57,7 +61,10 @@ pub fn print_frame(label: &[u8], w: FrameWritten) {
             io::write_all(STDOUT_FILENO, b" bits");
             print_number(bits);
         }
-        FrameWritten::Refused(r) => print_refused(frame_write_number(r), frame_write_value(r)),
+        FrameWritten::Refused(_) => {
+            let numbers = frame_written(w);
+            print_refused(numbers.number, numbers.value);
+        }
     }
     io::write_all(STDOUT_FILENO, b"\n");
 }

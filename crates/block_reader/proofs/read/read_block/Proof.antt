@@ -1,12 +1,12 @@
 -- `read_block` meets its contract: a framing, then questions 18 and 19, then header and text handed out. Assumes nothing.
-use mathlib.Core.Path.{sym, ap, _∙_}
+use mathlib.Core.Path.{sym, ap, ap₂, _∙_}
 use native.Mathlib.Omega.{arith}
 use lib.ListN.{length}
 use borrow.Author.Tests.{not-true, not-false}
-use Rattle.block.specs.Read.{readOutput}
-use Rattle.block.specs.Answers.{ofReadAnswer}
+use Rattle.bits.specs.Calls.{called}
+use Rattle.block.specs.Answers.{afterReading}
 use Rattle.block_framing.specs.Framings.{ofWalk, ofUnframed}
-use Rattle.block_reader.proofs.ReadBlock.{found-framing, ordered, closed, lengths-small, counts-kept, wrong-check, output-short, is-taken, taken-numbers, taken-output, no-framing, kept-output}
+use Rattle.block_reader.proofs.ReadBlock.{found-framing, ordered, closed, lengths-small, counts-kept, wrong-check, output-short, is-taken, taken-numbers, taken-output, no-framing, is-refused}
 use borrow.Author.Needs.{needs}
 use Rattle.block_reader.proofs.read.read_block.Statement.{statement}
 use Rattle.block_reader.proofs.read.read_block.Tie as tie
@@ -27,7 +27,7 @@ returns : tie.Need-returns
 returns c =
     let a = c .before .before .before .before .before .before .args in
     let e = no-framing (a .method) (a .parity) (a .line .now) (length (a .out .now)) (c .before .before .before .find-framing .ensures) (c .before .enum-told .given .1) in
-    (c .unframed .ensures ∙ ap (λ w. ofUnframed (ofWalk w)) (c .before .enum-told .given .1) ∙ sym (ap ofReadAnswer e), kept-output (a .out .now) e)
+    ap (λ n. called n (a .out .now)) (c .unframed .ensures ∙ ap (λ w. ofUnframed (ofWalk w)) (c .before .enum-told .given .1)) ∙ is-refused (a .out .now) e
 
 check-right-requires : tie.Need-check-right-requires
 check-right-requires c κs =
@@ -40,7 +40,7 @@ returns-2 c =
     let a = c .before .before .before .before .before .before .before .before .args in
     let x = found-framing (a .method) (a .parity) (a .line .now) _ (sym (c .before .before .before .before .before .find-framing .ensures) ∙ ap ofWalk (c .before .before .before .walked .given .1)) in
     let e = wrong-check (a .method) (a .parity) (a .line .now) _ x (c .before .check-right .ensures) (length (a .out .now)) (not-true _ (c .if1 .taken)) in
-    (sym (ap ofReadAnswer e), kept-output (a .out .now) e)
+    is-refused (a .out .now) e
 
 add-needed : tie.Need-add-needed
 add-needed c =
@@ -54,7 +54,7 @@ returns-3 c =
     let a = c .before .before .before .before .before .before .before .before .before .before .args in
     let x = found-framing (a .method) (a .parity) (a .line .now) _ (sym (c .before .before .before .before .before .before .before .find-framing .ensures) ∙ ap ofWalk (c .before .before .before .before .before .walked .given .1)) in
     let e = output-short (a .method) (a .parity) (a .line .now) _ x (c .before .before .before .check-right .ensures) (length (a .out .now)) (not-false _ (c .before .before .if1 .left)) (c .if2 .taken) in
-    (sym (ap ofReadAnswer e), kept-output (a .out .now) e)
+    is-refused (a .out .now) e
 
 is-seven-requires : tie.Need-is-seven-requires
 is-seven-requires c κs = search needs
@@ -73,10 +73,10 @@ returns-4 c =
     let a = c .before .before .before .before .before .before .before .before .before .before .before .before .before .before .before .args in
     let x = found-framing (a .method) (a .parity) (a .line .now) _ (sym (c .before .before .before .before .before .before .before .before .before .before .before .before .find-framing .ensures) ∙ ap ofWalk (c .before .before .before .before .before .before .before .before .before .before .walked .given .1)) in
     let fits = c .before .before .before .before .before .if2 .left in
-    let e = is-taken (a .method) (a .parity) (a .line .now) _ x (c .before .before .before .before .before .before .before .before .check-right .ensures) (length (a .out .now)) (not-false _ (c .before .before .before .before .before .before .before .if1 .left)) fits in (
-      taken-numbers (a .method) (a .parity) (a .line .now) _ x ∙ sym (ap ofReadAnswer e),
-      taken-output (a .method) (a .parity) (a .line .now) _ x (a .out .now) fits (rw (c .before .before .before .before .is-seven .ensures) at (c .before .before .hand-out .ensures)) ∙ sym (ap (λ z. readOutput z (a .out .now)) e),
-    )
+    let e = is-taken (a .method) (a .parity) (a .line .now) _ x (c .before .before .before .before .before .before .before .before .check-right .ensures) (length (a .out .now)) (not-false _ (c .before .before .before .before .before .before .before .if1 .left)) fits in
+    ap₂ called (taken-numbers (a .method) (a .parity) (a .line .now) _ x)
+    (taken-output (a .method) (a .parity) (a .line .now) _ x (a .out .now) fits (rw (c .before .before .before .before .is-seven .ensures) at (c .before .before .hand-out .ensures)))
+    ∙ sym (ap (λ z. afterReading z (a .out .now)) e)
 
 pub read-block-spec : {M : Type 1} → statement M
 read-block-spec =

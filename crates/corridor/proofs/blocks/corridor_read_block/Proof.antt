@@ -1,7 +1,7 @@
 -- `corridor_read_block` meets its contract: each return knows which codes were known, and the last the answer of the call below.
 -- Assumes nothing.
 use mathlib.Core.Path.{sym, _∙_}
-use Rattle.corridor.proofs.Answered.{block-answered}
+use Rattle.corridor.proofs.Answered.{block-read}
 use Rattle.corridor.proofs.blocks.corridor_read_block.Statement.{statement}
 use Rattle.corridor.proofs.blocks.corridor_read_block.Tie as tie
 
@@ -34,11 +34,8 @@ returns-2 c =
 read-block-requires : tie.Need-read-block-requires
 read-block-requires c κs = tt
 
-read-values-requires : tie.Need-read-values-requires
-read-values-requires c κs = tt
-
-read-number-requires : tie.Need-read-number-requires
-read-number-requires c κs = tt
+block-read-requires : tie.Need-block-read-requires
+block-read-requires c κs = tt
 
 same-length : tie.Need-same-length
 same-length c = c .before .before .before .out .given
@@ -48,7 +45,7 @@ returns-3 c =
     let p = c .before .before .before .before .before .before .before in
     let m = p .before .before .before .before in
     rw (sym (m .before .before .method-of .ensures) ∙ m .m .given .1, sym (p .before .before .parity-of .ensures) ∙ p .p .given .1)
-    (block-answered 5 (c .before .before .before .before .read-block .ensures .0) (c .read-number .ensures) (c .before .read-values .ensures) (c .before .before .before .before .read-block .ensures .1))
+    (block-read (c .before .before .before .before .read-block .ensures) (c .before .block-read .ensures))
 
 pub corridor-read-block-spec : {M : Type 1} → statement M
 corridor-read-block-spec =
@@ -63,7 +60,6 @@ corridor-read-block-spec =
     enum-told-2
     returns-2
     read-block-requires
-    read-values-requires
-    read-number-requires
+    block-read-requires
     same-length
     returns-3)

@@ -1,7 +1,7 @@
 -- `corridor_write_block` meets its contract: each return knows which codes were known, and the last the answer of the call below.
 -- Assumes nothing.
 use mathlib.Core.Path.{sym, _∙_}
-use Rattle.corridor.proofs.Answered.{block-answered}
+use Rattle.corridor.proofs.Answered.{block-written}
 use Rattle.corridor.proofs.blocks.corridor_write_block.Statement.{statement}
 use Rattle.corridor.proofs.blocks.corridor_write_block.Tie as tie
 
@@ -65,23 +65,20 @@ returns-4 c =
 write-block-requires : tie.Need-write-block-requires
 write-block-requires c κs = tt
 
-written-value-requires : tie.Need-written-value-requires
-written-value-requires c κs = tt
-
-written-number-requires : tie.Need-written-number-requires
-written-number-requires c κs = tt
+block-written-requires : tie.Need-block-written-requires
+block-written-requires c κs = tt
 
 same-length : tie.Need-same-length
-same-length c = c .before .before .before .out .given
+same-length c = c .before .before .out .given
 
 returns-5 : tie.Need-returns-5
 returns-5 c =
-    let e = c .before .before .before .before .before .before .before in
+    let e = c .before .before .before .before .before .before in
     let s = e .before .before .before .before in
     let p = s .before .before .before .before in
     let m = p .before .before .before .before in
     rw (sym (m .before .before .method-of .ensures) ∙ m .m .given .1, sym (p .before .before .parity-of .ensures) ∙ p .p .given .1, sym (s .before .before .shape-of .ensures) ∙ s .s .given .1, sym (e .before .before .end-of .ensures) ∙ e .e .given .1)
-    (block-answered 1 (c .before .before .before .before .write-block .ensures .0) (c .written-number .ensures) (c .before .written-value .ensures) (c .before .before .before .before .write-block .ensures .1))
+    (block-written (c .before .before .before .write-block .ensures) (c .block-written .ensures))
 
 pub corridor-write-block-spec : {M : Type 1} → statement M
 corridor-write-block-spec =
@@ -104,7 +101,6 @@ corridor-write-block-spec =
     enum-told-4
     returns-4
     write-block-requires
-    written-value-requires
-    written-number-requires
+    block-written-requires
     same-length
     returns-5)

@@ -20,20 +20,17 @@ returns c = rw (sym (c .before .before .frame-method-of .ensures) ∙ c .enum-to
 read-frame-requires : tie.Need-read-frame-requires
 read-frame-requires c κs = tt
 
-read-value-requires : tie.Need-read-value-requires
-read-value-requires c κs = tt
-
-read-number-requires : tie.Need-read-number-requires
-read-number-requires c κs = tt
+frame-read-requires : tie.Need-frame-read-requires
+frame-read-requires c κs = tt
 
 same-length : tie.Need-same-length
-same-length c = c .before .before .before .out .given
+same-length c = c .before .before .out .given
 
 returns-2 : tie.Need-returns-2
 returns-2 c =
-    let m = c .before .before .before .before .before .before .before in
+    let m = c .before .before .before .before .before .before in
     rw (sym (m .before .before .frame-method-of .ensures) ∙ m .m .given .1)
-    (frame-answered (c .before .before .before .before .read-frame .ensures .0) (c .read-number .ensures) (c .before .read-value .ensures) (c .before .before .before .before .read-frame .ensures .1))
+    (frame-answered (c .before .before .before .read-frame .ensures) (c .frame-read .ensures))
 
 pub corridor-read-frame-spec : {M : Type 1} → statement M
 corridor-read-frame-spec =
@@ -44,7 +41,6 @@ corridor-read-frame-spec =
     enum-told
     returns
     read-frame-requires
-    read-value-requires
-    read-number-requires
+    frame-read-requires
     same-length
     returns-2)

@@ -20,20 +20,17 @@ returns c = rw (sym (c .before .before .frame-method-of .ensures) ∙ c .enum-to
 write-frame-requires : tie.Need-write-frame-requires
 write-frame-requires c κs = tt
 
-written-value-requires : tie.Need-written-value-requires
-written-value-requires c κs = tt
-
-written-number-requires : tie.Need-written-number-requires
-written-number-requires c κs = tt
+frame-written-requires : tie.Need-frame-written-requires
+frame-written-requires c κs = tt
 
 same-length : tie.Need-same-length
-same-length c = c .before .before .before .out .given
+same-length c = c .before .before .out .given
 
 returns-2 : tie.Need-returns-2
 returns-2 c =
-    let m = c .before .before .before .before .before .before .before in
+    let m = c .before .before .before .before .before .before in
     rw (sym (m .before .before .frame-method-of .ensures) ∙ m .m .given .1)
-    (frame-answered (c .before .before .before .before .write-frame .ensures .0) (c .written-number .ensures) (c .before .written-value .ensures) (c .before .before .before .before .write-frame .ensures .1))
+    (frame-answered (c .before .before .before .write-frame .ensures) (c .frame-written .ensures))
 
 pub corridor-write-frame-spec : {M : Type 1} → statement M
 corridor-write-frame-spec =
@@ -44,7 +41,6 @@ corridor-write-frame-spec =
     enum-told
     returns
     write-frame-requires
-    written-value-requires
-    written-number-requires
+    frame-written-requires
     same-length
     returns-2)

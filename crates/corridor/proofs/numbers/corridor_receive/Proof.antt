@@ -6,18 +6,15 @@ use Rattle.corridor.proofs.numbers.corridor_receive.Tie as tie
 receive-requires : tie.Need-receive-requires
 receive-requires c κs = tt
 
-verdict-of-requires : tie.Need-verdict-of-requires
-verdict-of-requires c κs = tt
-
-number-of-requires : tie.Need-number-of-requires
-number-of-requires c κs = tt
+received-requires : tie.Need-received-requires
+received-requires c κs = tt
 
 returns : tie.Need-returns
 returns c =
-    let at = c .before .before .before in
+    let at = c .before .before in
     let a = at .before .args in
-    received (a .n) (a .c) (a .number) (at .receive .result) (at .receive .ensures) (c .number-of .ensures) (c .before .before .verdict-of .ensures)
+    received (a .n) (a .c) (a .number) (at .receive .result) (at .receive .ensures) (c .before .received .ensures)
 
 pub corridor-receive-spec : {M : Type 1} → statement M
 corridor-receive-spec =
-    tie.close (tie.spec receive-requires verdict-of-requires number-of-requires returns)
+    tie.close (tie.spec receive-requires received-requires returns)

@@ -3,6 +3,7 @@ use mathlib.Core.Path.{ap, _∙_, subst}
 use native.Mathlib.Omega.{arith}
 use lib.ListN.{length}
 use borrow.Author.Tests.{not-true, not-false}
+use Rattle.bits.specs.Calls.{called}
 use Rattle.frame.specs.Frame.{parametersOf}
 use Rattle.frame_reader.specs.Steps.{ChecksRight, ofWalk, ofUnframed}
 use Rattle.frame_reader.proofs.Questions.{sizes}
@@ -27,8 +28,8 @@ returns : tie.Need-returns
 returns c =
     let a = c .before .before .before .before .before .before .args in
     let q = c .before .enum-told .given .1 in
-    let e = is-refused (a .out .now) (no-framing (a .method) (a .lent .now) (a .bits) (c .before .before .before .find-framing .ensures .0) (length (a .out .now)) q) in
-    (c .unframed .ensures ∙ ap (λ w. ofUnframed (ofWalk w)) q ∙ e .0, e .1)
+    ap (λ n. called n (a .out .now)) (c .unframed .ensures ∙ ap (λ w. ofUnframed (ofWalk w)) q)
+    ∙ is-refused (a .out .now) (no-framing (a .method) (a .lent .now) (a .bits) (c .before .before .before .find-framing .ensures .0) (length (a .out .now)) q)
 
 returns-2 : tie.Need-returns-2
 returns-2 c =
