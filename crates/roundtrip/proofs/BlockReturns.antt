@@ -1,6 +1,6 @@
 -- A written block comes back: by the second property its line is read where the output holds the parts, and the questions before
 -- the output's do not depend on its length. Assumes nothing.
-use mathlib.Core.Path.{_≡_, refl, sym, ap, _∙_}
+use mathlib.Core.Path.{_≡_, refl, sym, ap, ap₂, _∙_}
 use Prim.Native.Nat.{ℕ, _+_, _≤_}
 use native.Mathlib.Omega.{arith}
 use mathlib.Core.Bool.{Bool, true, false, cond}
@@ -10,6 +10,7 @@ use lib.ListN.{length, take, drop, length-append}
 use lib.Seq.{take-at}
 use Rattle.bits.specs.Strings.{same}
 use Rattle.bits.specs.Bytes.{bitsOf}
+use Rattle.bits.specs.Calls.{called}
 use Rattle.block.specs.declared.Method.{Method}
 use Rattle.block.specs.declared.Parity.{Parity}
 use Rattle.block.specs.declared.Shape.{Shape}
@@ -21,18 +22,17 @@ use Rattle.block.specs.declared.WriteRefusal.{WriteRefusal}
 use Rattle.block.specs.declared.BlockRead.{BlockRead}
 use Rattle.block.specs.declared.BlockRead.the-variants as reads
 use Rattle.block.specs.declared.ReadRefusal.{ReadRefusal}
-use Rattle.block.specs.declared.ReadRefusal.the-variants as refusals
 use Rattle.block.specs.Check.{checkOf}
 use Rattle.block.specs.Marks.{counted, checkBytes}
 use Rattle.block.specs.Read.{Framed, found, unframed, framed, Parts, partsOf, outputLength, ReadAnswer, taken, refusal, askCheck, readBlock, readOutput}
 use Rattle.block.specs.Write as writing
-use Rattle.block.specs.Answers.{ofRead, ofReadAnswer, ofWritten, ofWriteAnswer}
-use Rattle.block.proofs.OneToOne.{ofRead-injective}
+use Rattle.block.specs.Answers.{ofRead, ofReadAnswer, afterReading, readCall, writeNumber, writeValue, ofWritten, ofWriteAnswer, afterWriting, writeCall}
 use Rattle.guarantees.specs.Second.{partsWritten}
 use Rattle.guarantees.proofs.Second.{second-property}
-use Rattle.roundtrip.specs.declared.ReadBack.{ReadBack}
-use Rattle.roundtrip.specs.declared.ReadBack.the-variants.{NotWritten, Equal, Different}
-use Rattle.roundtrip.specs.Returns.{blockBack, blockAnswer, blockOutput, BlockReturned, BlockOf, ofBlockRefusal}
+use Rattle.roundtrip.proofs.Compared.{joined}
+use Rattle.roundtrip.specs.declared.BlockReturn.{BlockReturn}
+use Rattle.roundtrip.specs.declared.BlockReturn.the-variants.{NotWritten, NotRead, Equal, Different}
+use Rattle.roundtrip.specs.Returns.{Returned, refused, returned, blockBack, blockAnswer, blockOutput, blockTrip, blockReturns, BlockOf, ofBlockReturn}
 
 -- ---- what the output's length changes
 
@@ -69,18 +69,25 @@ module _ (m : Method) (p : Parity) (s : Shape) (e : EndSign) (head body line out
 
   -- what write_block ensures
   abbrev Writes : BlockWritten → List ℕ → Type 0
-  Writes w line₁ = (ofWritten w ≡ ofWriteAnswer rule) × (line₁ ≡ writing.writeOutput rule line)
+  Writes w line₁ = called (ofWritten w) line₁ ≡ writeCall m p s e head body line
 
-  pub not-written : (w : BlockWritten) {line₁ : List ℕ} → Writes w line₁ → {r : WriteRefusal} → w ≡ writes.Refused r
-      → BlockReturned m p s e head body line out NotWritten line₁ out
-  not-written w h {r} q = record { answer = go rule f .0; line-after = h .1; output-after = go rule f .1 }
+  -- what the function ensures
+  abbrev Returns : BlockReturn → List ℕ → List ℕ → Type 0
+  Returns r line₁ out₁ = returned (ofBlockReturn r) line₁ out₁ ≡ blockReturns m p s e head body line out
+
+  pub not-written : (w : BlockWritten) {line₁ : List ℕ} → Writes w line₁ → {r : WriteRefusal} → w ≡ writes.Refused r → Returns (NotWritten r) line₁ out
+  not-written w {line₁ = line₁} h {r} q = go rule (ap (λ z. called (ofWritten z) line₁) (sym q) ∙ h)
     where
-      f : ofWritten (writes.Refused r) ≡ ofWriteAnswer rule
-      f = sym (ap ofWritten q) ∙ h .0
-
-      go : (a : writing.WriteAnswer) → ofWritten (writes.Refused r) ≡ ofWriteAnswer a → (NotWritten ≡ blockAnswer a back) × (out ≡ blockOutput a back out)
-      go (writing.refusal n v) g = (refl, refl)
-      go (writing.written l) g = let z : _≡_ {A = ℕ} 0 1 = cc in absurd (omega arith)
+      go : (a : writing.WriteAnswer) → called (ofWritten (writes.Refused r)) line₁ ≡ afterWriting a line
+          → returned (ofBlockReturn (NotWritten r)) line₁ out ≡ blockTrip a back line out
+      go (writing.refusal n v) g =
+          let f = ap (λ c. c .answer) g in
+          let i : writeNumber r ≡ n = cc in
+          let j : writeValue r ≡ v = cc in
+          joined (ap₂ refused i j) (ap (λ c. c .output) g) refl
+      go (writing.written l) g =
+          let f = ap (λ c. c .answer) g in
+          absurd (let z : _≡_ {A = ℕ} 0 1 = cc in omega arith)
 
   -- the first n bytes are the line
   pub record WrittenLine (n : ℕ) (line₁ : List ℕ) : Type 0 where
@@ -91,7 +98,7 @@ module _ (m : Method) (p : Parity) (s : Shape) (e : EndSign) (head body line out
 
   pub written-line : (w : BlockWritten) {line₁ : List ℕ} → Writes w line₁ → {n : ℕ} → w ≡ writes.Written n → WrittenLine n line₁
   unfolding writing.writeOutput
-  written-line w {line₁ = line₁} h {n} q = go rule refl (sym (ap ofWritten q) ∙ h .0) (h .1)
+  written-line w {line₁ = line₁} h {n} q = go rule refl (sym (ap ofWritten q) ∙ ap (λ c. c .answer) h) (ap (λ c. c .output) h)
     where
       go : (a : writing.WriteAnswer) → rule ≡ a → ofWritten (writes.Written n) ≡ ofWriteAnswer a → line₁ ≡ writing.writeOutput a line → WrittenLine n line₁
       go (writing.refusal k v) r g o = let z : _≡_ {A = ℕ} 0 1 = cc in absurd (omega arith)
@@ -106,7 +113,7 @@ module _ (m : Method) (p : Parity) (s : Shape) (e : EndSign) (head body line out
 
   -- what read_block ensures of these bytes
   abbrev Reads : List ℕ → BlockRead → List ℕ → Type 0
-  Reads l r out₁ = (ofRead r ≡ ofReadAnswer (readBlock m p l (length out))) × (out₁ ≡ readOutput (readBlock m p l (length out)) out)
+  Reads l r out₁ = called (ofRead r) out₁ ≡ readCall m p l out
 
   pub record TakenBack (b : Block) (out₁ : List ℕ) : Type 0 where
     pub fits : leb (length head + length body) (length out) ≡ true
@@ -123,20 +130,19 @@ module _ (m : Method) (p : Parity) (s : Shape) (e : EndSign) (head body line out
         ∙ other-room m p (w .bytes) (length head + length body) (length out) (partsWritten s e head body)
         (second-property .written-reads-back m p s e head body (w .bytes) (length line) (length head + length body) (w .by-rule) (omega arith))
 
-    -- the answer and the outputs, of the answer that the comparing gives
-    returned : {answer : ReadBack} (fits : Bool) → leb (length head + length body) (length out) ≡ fits
-        → answer ≡ blockAnswer (writing.written (w .bytes)) (answered fits)
-        → line₁ ≡ writing.writeOutput rule line → BlockReturned m p s e head body line out answer line₁ out₁
-    returned fits t a l =
-        record {
-          answer = a ∙ ap (λ z. blockAnswer (writing.written (w .bytes)) (answered z)) (sym t) ∙ ap (λ z. blockAnswer z back) (sym (w .by-rule));
-          line-after = l;
-          output-after = h .1 ∙ ap (λ z. readOutput z out) read-back ∙ ap (λ z. blockOutput z back out) (sym (w .by-rule));
-        }
+    back-is : called (ofRead r) out₁ ≡ afterReading back out
+    back-is = h ∙ ap (λ z. afterReading z out) read-back
+
+    -- where the line was written, of the answer that reading it back gives
+    of-written : {answer : Returned} → answer ≡ blockAnswer (writing.written (w .bytes)) back → line₁ ≡ writing.writeOutput rule line
+        → returned answer line₁ out₁ ≡ blockReturns m p s e head body line out
+    of-written a l =
+        joined (a ∙ ap (λ z. blockAnswer z back) (sym (w .by-rule))) l
+        (ap (λ c. c .output) back-is ∙ ap (λ z. blockOutput z back out) (sym (w .by-rule)))
 
     pub taken-back : {b : Block} → r ≡ reads.Taken b → TakenBack b out₁
     unfolding readOutput
-    taken-back {b} q = go (leb (length head + length body) (length out)) refl (sym (ap ofRead q) ∙ h .0 ∙ ap ofReadAnswer read-back) (h .1 ∙ ap (λ z. readOutput z out) read-back)
+    taken-back {b} q = go (leb (length head + length body) (length out)) refl (sym (ap ofRead q) ∙ ap (λ c. c .answer) back-is) (ap (λ c. c .output) back-is)
       where
         go : (fits : Bool) → leb (length head + length body) (length out) ≡ fits
             → ofRead (reads.Taken b) ≡ ofReadAnswer (answered fits)
@@ -156,21 +162,18 @@ module _ (m : Method) (p : Parity) (s : Shape) (e : EndSign) (head body line out
                   };
             }
 
-    pub taken-returns : {b : Block} → r ≡ reads.Taken b → {equal : Bool} → (BlockOf s e head body b out₁ → equal ≡ true) → {answer : ReadBack}
-        → answer ≡ cond equal Equal Different → line₁ ≡ writing.writeOutput rule line → BlockReturned m p s e head body line out answer line₁ out₁
+    pub taken-returns : {b : Block} → r ≡ reads.Taken b → {equal : Bool} → (BlockOf s e head body b out₁ → equal ≡ true) → {answer : BlockReturn}
+        → answer ≡ cond equal Equal Different → line₁ ≡ writing.writeOutput rule line → Returns answer line₁ out₁
     taken-returns q decided a l =
         let t = taken-back q in
-        returned true (t .fits) (a ∙ ap (λ z. cond z Equal Different) (decided (t .equal))) l
+        of-written
+        (ap ofBlockReturn (a ∙ ap (λ z. cond z Equal Different) (decided (t .equal))) ∙ ap (λ z. blockAnswer (writing.written (w .bytes)) (answered z)) (sym (t .fits)))
+        l
 
-    pub refused-returns : {x : ReadRefusal} → r ≡ reads.Refused x → {answer : ReadBack} → answer ≡ ofBlockRefusal x
-        → line₁ ≡ writing.writeOutput rule line → BlockReturned m p s e head body line out answer line₁ out₁
-    refused-returns {x} q {answer} a l = go (leb (length head + length body) (length out)) refl (sym (ap ofRead q) ∙ h .0 ∙ ap ofReadAnswer read-back)
+    pub refused-returns : {x : ReadRefusal} → r ≡ reads.Refused x → line₁ ≡ writing.writeOutput rule line → Returns (NotRead x) line₁ out₁
+    refused-returns {x} q l = of-written (go (leb (length head + length body) (length out)) (sym (ap ofRead q) ∙ ap (λ c. c .answer) back-is)) l
       where
-        go : (fits : Bool) → leb (length head + length body) (length out) ≡ fits
-            → ofRead (reads.Refused x) ≡ ofReadAnswer (answered fits)
-            → BlockReturned m p s e head body line out answer line₁ out₁
-        go true t g = let z : _≡_ {A = ℕ} 0 1 = cc in absurd (omega arith)
-        go false t g =
-            let o = ofRead-injective (reads.Refused x) (reads.Refused (refusals.OutputShort (length head + length body))) g in
-            let short : x ≡ refusals.OutputShort (length head + length body) = cc o in
-            returned false t (a ∙ ap ofBlockRefusal short) l
+        go : (fits : Bool) → ofRead (reads.Refused x) ≡ ofReadAnswer (answered fits)
+            → ofBlockReturn (NotRead x) ≡ blockAnswer (writing.written (w .bytes)) (answered fits)
+        go true g = let z : _≡_ {A = ℕ} 0 1 = cc in absurd (omega arith)
+        go false g = cc

@@ -7,12 +7,16 @@ use mathlib.Core.List.{List, [], _∷_, _++_}
 use lib.ListN.{length, take, drop, getD}
 use lib.Seq.{take-add, take-take, take-at, drop-at}
 use Rattle.bits.specs.Bytes.{Bytes}
-use Rattle.roundtrip.specs.Returns.{Decides}
+use Rattle.roundtrip.specs.Returns.{Decides, Returned, returned}
 
 -- the elements of a slice are bytes
 pub bytes-of : (bs : List ℕ) → ((i : ℕ) → getD bs i 0 < 256) → Bytes bs
 bytes-of [] small = tt
 bytes-of (b ∷ bs) small = (small 0, bytes-of bs (λ i. small (suc i)))
+
+-- an answer, a line and an output, each by the rule
+pub joined : {a a₁ : Returned} {l l₁ o o₁ : List ℕ} → a ≡ a₁ → l ≡ l₁ → o ≡ o₁ → returned a l o ≡ returned a₁ l₁ o₁
+joined a l o = cc
 
 not-both : {t : Bool} → t ≡ false → t ≡ true → ⊥
 not-both f e = let z : _≡_ {A = ℕ} 0 1 = cc in omega arith

@@ -1,6 +1,6 @@
 -- A written frame comes back: by the second property its content is read where the output holds it, and the questions before the
 -- output's do not depend on its length. Assumes nothing.
-use mathlib.Core.Path.{_≡_, refl, sym, ap, _∙_}
+use mathlib.Core.Path.{_≡_, refl, sym, ap, ap₂, _∙_}
 use Prim.Native.Nat.{ℕ, _*_, _≤_}
 use native.Mathlib.Omega.{arith}
 use mathlib.Core.Bool.{Bool, true, false, cond}
@@ -10,6 +10,7 @@ use lib.ListN.{length, take, drop, length-append}
 use lib.Seq.{take-at}
 use Rattle.bits.specs.Strings.{same}
 use Rattle.bits.specs.Bytes.{bitsOf, bytesFor, pack, Bytes}
+use Rattle.bits.specs.Calls.{called}
 use Rattle.bits.proofs.Packing.{length-pack, pack-bitsOf}
 use Rattle.cyclic.specs.Check.{Parameters, checkBits}
 use Rattle.frame.specs.declared.FrameMethod.{FrameMethod}
@@ -20,17 +21,16 @@ use Rattle.frame.specs.declared.WriteRefusal.{WriteRefusal}
 use Rattle.frame.specs.declared.FrameRead.{FrameRead}
 use Rattle.frame.specs.declared.FrameRead.the-variants as reads
 use Rattle.frame.specs.declared.ReadRefusal.{ReadRefusal}
-use Rattle.frame.specs.declared.ReadRefusal.the-variants as refusals
 use Rattle.frame.specs.Frame.{parametersOf}
 use Rattle.frame.specs.Read.{Framed, found, unframed, framed, checkIn, contentOf, ReadAnswer, taken, refusal, askCheck, readBits, readFrame, readOutput}
 use Rattle.frame.specs.Write as writing
-use Rattle.frame.specs.Answers.{ofRead, ofReadAnswer, ofWritten, ofWriteAnswer}
-use Rattle.frame.proofs.OneToOne.{ofRead-injective}
+use Rattle.frame.specs.Answers.{ofRead, ofReadAnswer, afterReading, readCall, writeNumber, writeValue, ofWritten, ofWriteAnswer, afterWriting, writeCall}
 use Rattle.guarantees.specs.Second.{FrameReadsBack}
 use Rattle.guarantees.proofs.Second.{second-property}
-use Rattle.roundtrip.specs.declared.ReadBack.{ReadBack}
-use Rattle.roundtrip.specs.declared.ReadBack.the-variants.{NotWritten, Equal, Different}
-use Rattle.roundtrip.specs.Returns.{frameBack, frameAnswer, frameOutput, FrameReturned, ContentOf, ofFrameRefusal}
+use Rattle.roundtrip.specs.declared.FrameReturn.{FrameReturn}
+use Rattle.roundtrip.specs.declared.FrameReturn.the-variants.{NotWritten, NotRead, Equal, Different}
+use Rattle.roundtrip.specs.Returns.{Returned, refused, returned, frameBack, frameAnswer, frameOutput, frameTrip, frameReturns, ContentOf, ofFrameReturn}
+use Rattle.roundtrip.proofs.Compared.{joined}
 
 -- ---- what the output's length changes
 
@@ -79,18 +79,25 @@ module _ (m : FrameMethod) (content frame out : List ℕ) where
 
   -- what write_frame ensures
   abbrev Writes : FrameWritten → List ℕ → Type 0
-  Writes w frame₁ = (ofWritten w ≡ ofWriteAnswer rule) × (frame₁ ≡ writing.writeOutput rule frame)
+  Writes w frame₁ = called (ofWritten w) frame₁ ≡ writeCall m content frame
 
-  pub not-written : (w : FrameWritten) {frame₁ : List ℕ} → Writes w frame₁ → {r : WriteRefusal} → w ≡ writes.Refused r
-      → FrameReturned (parametersOf m) content frame out NotWritten frame₁ out
-  not-written w h {r} q = record { answer = go rule f .0; frame-after = h .1; output-after = go rule f .1 }
+  -- what the function ensures
+  abbrev Returns : FrameReturn → List ℕ → List ℕ → Type 0
+  Returns r frame₁ out₁ = returned (ofFrameReturn r) frame₁ out₁ ≡ frameReturns (parametersOf m) content frame out
+
+  pub not-written : (w : FrameWritten) {frame₁ : List ℕ} → Writes w frame₁ → {r : WriteRefusal} → w ≡ writes.Refused r → Returns (NotWritten r) frame₁ out
+  not-written w {frame₁ = frame₁} h {r} q = go rule (ap (λ z. called (ofWritten z) frame₁) (sym q) ∙ h)
     where
-      f : ofWritten (writes.Refused r) ≡ ofWriteAnswer rule
-      f = sym (ap ofWritten q) ∙ h .0
-
-      go : (a : writing.WriteAnswer) → ofWritten (writes.Refused r) ≡ ofWriteAnswer a → (NotWritten ≡ frameAnswer a back) × (out ≡ frameOutput a back out)
-      go (writing.refusal n v) g = (refl, refl)
-      go (writing.written l) g = let z : _≡_ {A = ℕ} 0 1 = cc in absurd (omega arith)
+      go : (a : writing.WriteAnswer) → called (ofWritten (writes.Refused r)) frame₁ ≡ afterWriting a frame
+          → returned (ofFrameReturn (NotWritten r)) frame₁ out ≡ frameTrip a back frame out
+      go (writing.refusal n v) g =
+          let f = ap (λ c. c .answer) g in
+          let i : writeNumber r ≡ n = cc in
+          let j : writeValue r ≡ v = cc in
+          joined (ap₂ refused i j) (ap (λ c. c .output) g) refl
+      go (writing.written l) g =
+          let f = ap (λ c. c .answer) g in
+          absurd (let z : _≡_ {A = ℕ} 0 1 = cc in omega arith)
 
   -- the first bits are the frame
   pub record WrittenFrame (n : ℕ) (frame₁ : List ℕ) : Type 0 where
@@ -101,7 +108,7 @@ module _ (m : FrameMethod) (content frame out : List ℕ) where
 
   pub written-frame : (w : FrameWritten) {frame₁ : List ℕ} → Writes w frame₁ → {n : ℕ} → w ≡ writes.Written n → WrittenFrame n frame₁
   unfolding writing.writeOutput
-  written-frame w {frame₁ = frame₁} h {n} q = go rule refl (sym (ap ofWritten q) ∙ h .0) (h .1)
+  written-frame w {frame₁ = frame₁} h {n} q = go rule refl (sym (ap ofWritten q) ∙ ap (λ c. c .answer) h) (ap (λ c. c .output) h)
     where
       go : (a : writing.WriteAnswer) → rule ≡ a → ofWritten (writes.Written n) ≡ ofWriteAnswer a → frame₁ ≡ writing.writeOutput a frame → WrittenFrame n frame₁
       go (writing.refusal k v) r g o = let z : _≡_ {A = ℕ} 0 1 = cc in absurd (omega arith)
@@ -109,8 +116,7 @@ module _ (m : FrameMethod) (content frame out : List ℕ) where
 
   -- what read_frame ensures of n bits of these bytes
   abbrev Reads : ℕ → List ℕ → FrameRead → List ℕ → Type 0
-  Reads n l r out₁ =
-      (ofRead r ≡ ofReadAnswer (readFrame (parametersOf m) n l (length out))) × (out₁ ≡ readOutput (readFrame (parametersOf m) n l (length out)) out)
+  Reads n l r out₁ = called (ofRead r) out₁ ≡ readCall m n l out
 
   pub record TakenBack (bytes : ℕ) (out₁ : List ℕ) : Type 0 where
     pub fits : leb (length content) (length out) ≡ true
@@ -129,18 +135,19 @@ module _ (m : FrameMethod) (content frame out : List ℕ) where
         (reads-back m content (w .bits) (length frame) (length content) (drop (bytesFor (length (w .bits))) frame) (w .by-rule) (omega arith))
         ∙ ap (λ k. cond (leb k (length out)) (taken (bitsOf content)) (refusal 38 k)) (whole content cb)
 
-    returned : {answer : ReadBack} (fits : Bool) → leb (length content) (length out) ≡ fits → answer ≡ frameAnswer (writing.written (w .bits)) (answered fits)
-        → frame₁ ≡ writing.writeOutput rule frame → FrameReturned (parametersOf m) content frame out answer frame₁ out₁
-    returned fits t a l =
-        record {
-          answer = a ∙ ap (λ z. frameAnswer (writing.written (w .bits)) (answered z)) (sym t) ∙ ap (λ z. frameAnswer z back) (sym (w .by-rule));
-          frame-after = l;
-          output-after = h .1 ∙ ap (λ z. readOutput z out) read-back ∙ ap (λ z. frameOutput z back out) (sym (w .by-rule));
-        }
+    back-is : called (ofRead r) out₁ ≡ afterReading back out
+    back-is = h ∙ ap (λ z. afterReading z out) read-back
+
+    -- where the frame was written, of the answer that reading it back gives
+    of-written : {answer : Returned} → answer ≡ frameAnswer (writing.written (w .bits)) back → frame₁ ≡ writing.writeOutput rule frame
+        → returned answer frame₁ out₁ ≡ frameReturns (parametersOf m) content frame out
+    of-written a l =
+        joined (a ∙ ap (λ z. frameAnswer z back) (sym (w .by-rule))) l
+        (ap (λ c. c .output) back-is ∙ ap (λ z. frameOutput z back out) (sym (w .by-rule)))
 
     pub taken-back : {bytes : ℕ} → r ≡ reads.Taken bytes → TakenBack bytes out₁
     unfolding readOutput
-    taken-back {bytes} q = go (leb (length content) (length out)) refl (sym (ap ofRead q) ∙ h .0 ∙ ap ofReadAnswer read-back) (h .1 ∙ ap (λ z. readOutput z out) read-back)
+    taken-back {bytes} q = go (leb (length content) (length out)) refl (sym (ap ofRead q) ∙ ap (λ c. c .answer) back-is) (ap (λ c. c .output) back-is)
       where
         go : (fits : Bool) → leb (length content) (length out) ≡ fits → ofRead (reads.Taken bytes) ≡ ofReadAnswer (answered fits)
             → out₁ ≡ readOutput (answered fits) out → TakenBack bytes out₁
@@ -158,20 +165,18 @@ module _ (m : FrameMethod) (content frame out : List ℕ) where
                   };
             }
 
-    pub taken-returns : {bytes : ℕ} → r ≡ reads.Taken bytes → {equal : Bool} → (ContentOf content bytes out₁ → equal ≡ true) → {answer : ReadBack}
-        → answer ≡ cond equal Equal Different → frame₁ ≡ writing.writeOutput rule frame → FrameReturned (parametersOf m) content frame out answer frame₁ out₁
+    pub taken-returns : {bytes : ℕ} → r ≡ reads.Taken bytes → {equal : Bool} → (ContentOf content bytes out₁ → equal ≡ true) → {answer : FrameReturn}
+        → answer ≡ cond equal Equal Different → frame₁ ≡ writing.writeOutput rule frame → Returns answer frame₁ out₁
     taken-returns q decided a l =
         let t = taken-back q in
-        returned true (t .fits) (a ∙ ap (λ z. cond z Equal Different) (decided (t .equal))) l
+        of-written
+        (ap ofFrameReturn (a ∙ ap (λ z. cond z Equal Different) (decided (t .equal))) ∙ ap (λ z. frameAnswer (writing.written (w .bits)) (answered z)) (sym (t .fits)))
+        l
 
-    pub refused-returns : {x : ReadRefusal} → r ≡ reads.Refused x → {answer : ReadBack} → answer ≡ ofFrameRefusal x
-        → frame₁ ≡ writing.writeOutput rule frame → FrameReturned (parametersOf m) content frame out answer frame₁ out₁
-    refused-returns {x} q {answer} a l = go (leb (length content) (length out)) refl (sym (ap ofRead q) ∙ h .0 ∙ ap ofReadAnswer read-back)
+    pub refused-returns : {x : ReadRefusal} → r ≡ reads.Refused x → frame₁ ≡ writing.writeOutput rule frame → Returns (NotRead x) frame₁ out₁
+    refused-returns {x} q l = of-written (go (leb (length content) (length out)) (sym (ap ofRead q) ∙ ap (λ c. c .answer) back-is)) l
       where
-        go : (fits : Bool) → leb (length content) (length out) ≡ fits → ofRead (reads.Refused x) ≡ ofReadAnswer (answered fits)
-            → FrameReturned (parametersOf m) content frame out answer frame₁ out₁
-        go true t g = let z : _≡_ {A = ℕ} 0 1 = cc in absurd (omega arith)
-        go false t g =
-            let o = ofRead-injective (reads.Refused x) (reads.Refused (refusals.OutputShort (length content))) g in
-            let short : x ≡ refusals.OutputShort (length content) = cc o in
-            returned false t (a ∙ ap ofFrameRefusal short) l
+        go : (fits : Bool) → ofRead (reads.Refused x) ≡ ofReadAnswer (answered fits)
+            → ofFrameReturn (NotRead x) ≡ frameAnswer (writing.written (w .bits)) (answered fits)
+        go true g = let z : _≡_ {A = ℕ} 0 1 = cc in absurd (omega arith)
+        go false g = cc

@@ -13,23 +13,37 @@ use Rattle.block.specs.declared.Parity.{Parity}
 use Rattle.block.specs.declared.Shape.{Shape}
 use Rattle.block.specs.declared.EndSign.{EndSign}
 use Rattle.block.specs.declared.Block.{Block}
-use Rattle.block.specs.declared.ReadRefusal as block-refusal
-use Rattle.block.specs.declared.ReadRefusal.the-variants as block-refused
 use Rattle.block.specs.Signs.{endByte}
 use Rattle.block.specs.Answers.{shapeNumber}
+use Rattle.block.specs.Answers as block-answers
 use Rattle.block.specs.Read as block-reading
 use Rattle.block.specs.Write as block-writing
-use Rattle.frame.specs.declared.ReadRefusal as frame-refusal
-use Rattle.frame.specs.declared.ReadRefusal.the-variants as frame-refused
 use Rattle.frame.specs.Read as frame-reading
 use Rattle.frame.specs.Write as frame-writing
+use Rattle.frame.specs.Answers as frame-answers
 use Rattle.guarantees.specs.Second.{partsWritten}
-use Rattle.roundtrip.specs.declared.ReadBack.{ReadBack}
-use Rattle.roundtrip.specs.declared.ReadBack.the-variants.{NotWritten, OutputShort, Equal, Different}
+use Rattle.roundtrip.specs.declared.BlockReturn.{BlockReturn}
+use Rattle.roundtrip.specs.declared.BlockReturn.the-variants as blocks
+use Rattle.roundtrip.specs.declared.FrameReturn.{FrameReturn}
+use Rattle.roundtrip.specs.declared.FrameReturn.the-variants as frames
 
 -- a test is true just where a fact holds
 abbrev pub Decides : Bool → Type 0 → Type 0
 Decides test fact = (test ≡ true → fact) × (fact → test ≡ true)
+
+-- what a round trip answers in numbers: a refusal is the writer's or the reader's, by its number
+pub data Returned : Type 0 where
+  equal different : Returned
+  refused : ℕ → ℕ → Returned
+
+-- the answer, and the lent line (or frame) and the lent output afterwards
+pub record RoundTrip : Type 0 where
+  pub answer : Returned
+  pub line : List ℕ
+  pub output : List ℕ
+
+abbrev pub returned : Returned → List ℕ → List ℕ → RoundTrip
+returned answer line output = record { answer = answer; line = line; output = output }
 
 -- ---- blocks
 
@@ -38,33 +52,29 @@ abbrev pub blockBack : Shape → EndSign → List ℕ → List ℕ → ℕ → b
 blockBack s e head body space =
     cond (leb (length head + length body) space) (block-reading.taken (partsWritten s e head body)) (block-reading.refusal 19 (length head + length body))
 
--- `Different` is no answer
-abbrev pub blockAnswer : block-writing.WriteAnswer → block-reading.ReadAnswer → ReadBack
-blockAnswer (block-writing.refusal number value) read = NotWritten
-blockAnswer (block-writing.written line) (block-reading.refusal number value) = OutputShort
-blockAnswer (block-writing.written line) (block-reading.taken b) = Equal
+abbrev pub ofBlockReturn : BlockReturn → Returned
+ofBlockReturn blocks.Equal = equal
+ofBlockReturn (blocks.NotWritten r) = refused (block-answers.writeNumber r) (block-answers.writeValue r)
+ofBlockReturn (blocks.NotRead r) = refused (block-answers.readNumber r) (block-answers.readValue r)
+ofBlockReturn blocks.Different = different
+
+-- of what writing answers and of what reading that would: `different` is no answer
+abbrev pub blockAnswer : block-writing.WriteAnswer → block-reading.ReadAnswer → Returned
+blockAnswer (block-writing.refusal number value) read = refused number value
+blockAnswer (block-writing.written line) (block-reading.refusal number value) = refused number value
+blockAnswer (block-writing.written line) (block-reading.taken b) = equal
 
 abbrev pub blockOutput : block-writing.WriteAnswer → block-reading.ReadAnswer → List ℕ → List ℕ
 blockOutput (block-writing.refusal number value) read out = out
 blockOutput (block-writing.written line) read out = block-reading.readOutput read out
 
--- of the line and the output before, the answer, and the line and the output afterwards
-pub record BlockReturned (m : Method) (p : Parity) (s : Shape) (e : EndSign) (head body line out : List ℕ) (r : ReadBack) (line₁ out₁ : List ℕ) : Type 0 where
-  pub answer : r ≡ blockAnswer (block-writing.writeBlock m p s e head body (length line)) (blockBack s e head body (length out))
-  pub line-after : line₁ ≡ block-writing.writeOutput (block-writing.writeBlock m p s e head body (length line)) line
-  pub output-after : out₁ ≡ blockOutput (block-writing.writeBlock m p s e head body (length line)) (blockBack s e head body (length out)) out
+abbrev pub blockTrip : block-writing.WriteAnswer → block-reading.ReadAnswer → List ℕ → List ℕ → RoundTrip
+blockTrip written read line out = returned (blockAnswer written read) (block-writing.writeOutput written line) (blockOutput written read out)
 
--- a refusal other than 19 is a difference
-abbrev pub ofBlockRefusal : block-refusal.ReadRefusal → ReadBack
-ofBlockRefusal block-refused.TooLong = Different
-ofBlockRefusal (block-refused.WrongParity at) = Different
-ofBlockRefusal block-refused.NoStart = Different
-ofBlockRefusal (block-refused.OutOfPlace at) = Different
-ofBlockRefusal block-refused.NoEnd = Different
-ofBlockRefusal (block-refused.CheckLength at) = Different
-ofBlockRefusal block-refused.TooManyCounted = Different
-ofBlockRefusal block-refused.WrongCheck = Different
-ofBlockRefusal (block-refused.OutputShort needed) = OutputShort
+-- of the parts, the lent line and the lent output
+abbrev pub blockReturns : Method → Parity → Shape → EndSign → List ℕ → List ℕ → List ℕ → List ℕ → RoundTrip
+blockReturns m p s e head body line out =
+    blockTrip (block-writing.writeBlock m p s e head body (length line)) (blockBack s e head body (length out)) line out
 
 -- the block read has the parts given, and the output starts with them
 pub record BlockOf (s : Shape) (e : EndSign) (head body : List ℕ) (b : Block) (out : List ℕ) : Type 0 where
@@ -81,30 +91,27 @@ abbrev pub frameBack : List ℕ → ℕ → frame-reading.ReadAnswer
 frameBack content space =
     cond (leb (length content) space) (frame-reading.taken (bitsOf content)) (frame-reading.refusal 38 (length content))
 
-abbrev pub frameAnswer : frame-writing.WriteAnswer → frame-reading.ReadAnswer → ReadBack
-frameAnswer (frame-writing.refusal number value) read = NotWritten
-frameAnswer (frame-writing.written frame) (frame-reading.refusal number value) = OutputShort
-frameAnswer (frame-writing.written frame) (frame-reading.taken content) = Equal
+abbrev pub ofFrameReturn : FrameReturn → Returned
+ofFrameReturn frames.Equal = equal
+ofFrameReturn (frames.NotWritten r) = refused (frame-answers.writeNumber r) (frame-answers.writeValue r)
+ofFrameReturn (frames.NotRead r) = refused (frame-answers.readNumber r) (frame-answers.readValue r)
+ofFrameReturn frames.Different = different
+
+abbrev pub frameAnswer : frame-writing.WriteAnswer → frame-reading.ReadAnswer → Returned
+frameAnswer (frame-writing.refusal number value) read = refused number value
+frameAnswer (frame-writing.written frame) (frame-reading.refusal number value) = refused number value
+frameAnswer (frame-writing.written frame) (frame-reading.taken content) = equal
 
 abbrev pub frameOutput : frame-writing.WriteAnswer → frame-reading.ReadAnswer → List ℕ → List ℕ
 frameOutput (frame-writing.refusal number value) read out = out
 frameOutput (frame-writing.written frame) read out = frame-reading.readOutput read out
 
-pub record FrameReturned (m : Parameters) (content frame out : List ℕ) (r : ReadBack) (frame₁ out₁ : List ℕ) : Type 0 where
-  pub answer : r ≡ frameAnswer (frame-writing.writeFrame m content (length frame)) (frameBack content (length out))
-  pub frame-after : frame₁ ≡ frame-writing.writeOutput (frame-writing.writeFrame m content (length frame)) frame
-  pub output-after : out₁ ≡ frameOutput (frame-writing.writeFrame m content (length frame)) (frameBack content (length out)) out
+abbrev pub frameTrip : frame-writing.WriteAnswer → frame-reading.ReadAnswer → List ℕ → List ℕ → RoundTrip
+frameTrip written read frame out = returned (frameAnswer written read) (frame-writing.writeOutput written frame) (frameOutput written read out)
 
--- a refusal other than 38 is a difference
-abbrev pub ofFrameRefusal : frame-refusal.ReadRefusal → ReadBack
-ofFrameRefusal frame-refused.BitsNotLent = Different
-ofFrameRefusal frame-refused.NoFlags = Different
-ofFrameRefusal (frame-refused.ZeroMissing at) = Different
-ofFrameRefusal frame-refused.PartOfByte = Different
-ofFrameRefusal frame-refused.NoContent = Different
-ofFrameRefusal frame-refused.TooLong = Different
-ofFrameRefusal frame-refused.WrongCheck = Different
-ofFrameRefusal (frame-refused.OutputShort needed) = OutputShort
+-- of the content, the lent frame and the lent output
+abbrev pub frameReturns : Parameters → List ℕ → List ℕ → List ℕ → RoundTrip
+frameReturns m content frame out = frameTrip (frame-writing.writeFrame m content (length frame)) (frameBack content (length out)) frame out
 
 -- as many bytes were read as the content has, and the output starts with it
 pub record ContentOf (content : List ℕ) (bytes : ℕ) (out : List ℕ) : Type 0 where

@@ -1,5 +1,4 @@
 // What was read beside what was written.
-use crate::ReadBack;
 use answers::shape_number;
 use block::Block;
 use block::EndSign;
@@ -7,21 +6,10 @@ use block::Shape;
 use block::end_byte;
 use check::same;
 ghost use mathlib.Core.Path.{_≡_};
-ghost use mathlib.Core.Bool.{cond};
 ghost use mathlib.Core.List.{_++_};
 ghost use Prim.Native.Nat.{_+_, _≤_};
 ghost use lib.ListN.{length, take};
 ghost use Rattle.roundtrip.specs.Returns.{Decides, BlockOf, ContentOf};
-
-pub fn compared(same: bool) -> ReadBack
-    ensures { λ r. ⌜ r ≡ cond same ReadBack.Equal ReadBack.Different ⌝ }
-{
-    if same {
-        ReadBack::Equal
-    } else {
-        ReadBack::Different
-    }
-}
 
 // Whether the output starts with header and text.
 fn same_parts(header: &[u8], text: &[u8], out: &[u8]) -> bool

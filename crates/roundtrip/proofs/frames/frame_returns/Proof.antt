@@ -1,5 +1,6 @@
 -- `frame_returns` meets its contract: write_frame's answer and output give the frame that read_frame reads back, and its answer and
 -- output give what is compared. Assumes nothing.
+use mathlib.Core.Path.{ap}
 use borrow.Author.Needs.{needs}
 use Rattle.roundtrip.proofs.Compared.{bytes-of}
 use Rattle.roundtrip.proofs.FrameReturns.{not-written, written-frame, taken-back, taken-returns, refused-returns}
@@ -12,16 +13,8 @@ write-frame-requires c κs = search needs
 enum-known-written : tie.Need-enum-known-written
 enum-known-written c = search needs
 
-enum-told : tie.Need-enum-told
-enum-told c = search needs
-
-same-length : tie.Need-same-length
-same-length c = search needs
-
-returns : tie.Need-returns
-returns c =
-    let a = c .before .before .before .before .before .before .before .before .before .args in
-    not-written (a .method) (a .content .now) (a .frame .now) (a .out .now) _ (c .before .before .before .before .write-frame .ensures) (c .enum-told .given .1)
+enum-known-written-2 : tie.Need-enum-known-written-2
+enum-known-written-2 c = search needs
 
 read-frame-requires : tie.Need-read-frame-requires
 read-frame-requires c κs = search needs
@@ -31,11 +24,10 @@ enum-known-read c = search needs
 
 same-content-requires : tie.Need-same-content-requires
 same-content-requires c κs =
-    let k = c .before .before .before .before .before .before .before .before .before in
-    let a = k .before .before .before .before .before .before .before .before .before .before .args in
-    let w = written-frame (a .method) (a .content .now) (a .frame .now) (a .out .now) _ (k .before .before .before .before .before .write-frame .ensures) (k .before .written .given .1) in
-    let t = taken-back (a .method) (a .content .now) (a .frame .now) (a .out .now) (bytes-of (a .content .now) (λ i. k .before .before .before .before .before .before .before .before .before .shared-slice-known .given i .fits)) w _ (c .before .before .before .before .before .before .read-frame .ensures) (c .before .before .read .given .1) in
-    t .room
+    let a = c .before .before .before .before .before .before .before .before .before .before .before .before .before .before .before .before .before .before .before .args in
+    let h = c .before .before .before .before .before .before .before .before .before .before .before .before .before .before .write-frame .ensures in
+    let w = written-frame (a .method) (a .content .now) (a .frame .now) (a .out .now) _ h (c .before .before .before .before .before .before .before .before .before .before .written2 .given .1) in
+    taken-back (a .method) (a .content .now) (a .frame .now) (a .out .now) (bytes-of (a .content .now) (λ i. c .before .before .before .before .before .before .before .before .before .before .before .before .before .before .before .before .before .before .shared-slice-known .given i .fits)) w _ (c .before .before .before .before .before .before .read-frame .ensures) (c .before .before .read .given .1) .room
 
 compared-requires : tie.Need-compared-requires
 compared-requires c κs = search needs
@@ -43,8 +35,13 @@ compared-requires c κs = search needs
 enum-known-read-2 : tie.Need-enum-known-read-2
 enum-known-read-2 c = search needs
 
-unread-requires : tie.Need-unread-requires
-unread-requires c κs = search needs
+same-length : tie.Need-same-length
+same-length c = search needs
+
+returns : tie.Need-returns
+returns c =
+    let a = c .before .before .before .before .before .before .before .before .before .before .args in
+    not-written (a .method) (a .content .now) (a .frame .now) (a .out .now) _ (c .before .before .before .before .before .write-frame .ensures) (c .before .written .given .1)
 
 same-length-2 : tie.Need-same-length-2
 same-length-2 c = search needs
@@ -54,14 +51,11 @@ same-length-3 c = search needs
 
 returns-2 : tie.Need-returns-2
 returns-2 c =
-    let k = c .before .before .before .before .before .before .before .before .before .before .before in
-    let a = k .before .before .before .before .before .before .before .before .before .before .args in
-    let h = k .before .before .before .before .before .write-frame .ensures in
-    let w = written-frame (a .method) (a .content .now) (a .frame .now) (a .out .now) _ h (k .before .written .given .1) in
-    taken-returns (a .method) (a .content .now) (a .frame .now) (a .out .now) (bytes-of (a .content .now) (λ i. k .before .before .before .before .before .before .before .before .before .shared-slice-known .given i .fits)) w _ (c .before .before .before .before .before .before .before .before .read-frame .ensures) (c .before .before .before .before .read .given .1)
-    (c .before .same-content .ensures .1)
-    (c .compared .ensures)
-    (h .1)
+    let a = c .before .before .before .before .before .before .before .before .before .before .before .before .before .before .before .before .before .before .before .before .before .args in
+    let h = c .before .before .before .before .before .before .before .before .before .before .before .before .before .before .before .before .write-frame .ensures in
+    let w = written-frame (a .method) (a .content .now) (a .frame .now) (a .out .now) _ h (c .before .before .before .before .before .before .before .before .before .before .before .before .written2 .given .1) in
+    taken-returns (a .method) (a .content .now) (a .frame .now) (a .out .now) (bytes-of (a .content .now) (λ i. c .before .before .before .before .before .before .before .before .before .before .before .before .before .before .before .before .before .before .before .before .shared-slice-known .given i .fits)) w _ (c .before .before .before .before .before .before .before .before .read-frame .ensures) (c .before .before .before .before .read .given .1)
+    (c .before .same-content .ensures .1) (c .compared .ensures) (ap (λ z. z .output) h)
 
 same-length-4 : tie.Need-same-length-4
 same-length-4 c = search needs
@@ -71,13 +65,10 @@ same-length-5 c = search needs
 
 returns-3 : tie.Need-returns-3
 returns-3 c =
-    let k = c .before .before .before .before .before .before .before .before .before in
-    let a = k .before .before .before .before .before .before .before .before .before .before .args in
-    let h = k .before .before .before .before .before .write-frame .ensures in
-    let w = written-frame (a .method) (a .content .now) (a .frame .now) (a .out .now) _ h (k .before .written .given .1) in
-    refused-returns (a .method) (a .content .now) (a .frame .now) (a .out .now) (bytes-of (a .content .now) (λ i. k .before .before .before .before .before .before .before .before .before .shared-slice-known .given i .fits)) w _ (c .before .before .before .before .before .before .read-frame .ensures) (c .before .before .read2 .given .1)
-    (c .unread .ensures)
-    (h .1)
+    let a = c .before .before .before .before .before .before .before .before .before .before .before .before .before .before .before .before .before .before .args in
+    let h = c .before .before .before .before .before .before .before .before .before .before .before .before .before .write-frame .ensures in
+    let w = written-frame (a .method) (a .content .now) (a .frame .now) (a .out .now) _ h (c .before .before .before .before .before .before .before .before .before .written2 .given .1) in
+    refused-returns (a .method) (a .content .now) (a .frame .now) (a .out .now) (bytes-of (a .content .now) (λ i. c .before .before .before .before .before .before .before .before .before .before .before .before .before .before .before .before .before .shared-slice-known .given i .fits)) w _ (c .before .before .before .before .before .read-frame .ensures) (c .before .read2 .given .1) (ap (λ z. z .output) h)
 
 pub frame-returns-spec : {M : Type 1} → statement M
 frame-returns-spec =
@@ -85,15 +76,14 @@ frame-returns-spec =
     (tie.spec
     write-frame-requires
     enum-known-written
-    enum-told
-    same-length
-    returns
+    enum-known-written-2
     read-frame-requires
     enum-known-read
     same-content-requires
     compared-requires
     enum-known-read-2
-    unread-requires
+    same-length
+    returns
     same-length-2
     same-length-3
     returns-2
