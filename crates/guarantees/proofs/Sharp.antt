@@ -24,7 +24,7 @@ use Rattle.block.specs.Check.{columnSums, matrixCheck, checkOf}
 use Rattle.block.specs.Read.{found, framed, framingOf}
 use Rattle.guarantees.specs.Lines.{TwoAccepted, distance, differingChecked}
 use Rattle.guarantees.specs.Blocks.{Accepted, checkedBits, blocks}
-use Rattle.guarantees.proofs.Blocks.Framing.{CheckRight, accepted-right}
+use Rattle.guarantees.proofs.Blocks.Framing.{CheckRight, has-framing, accepted-found, accepted-right}
 
 -- ---- lines of plain text
 
@@ -41,8 +41,9 @@ two-accepted : (m : Method) (p : Parity) (A B : List ℕ) → Bytes A × Bytes B
     → (getD A 1 0 ≡ getD B 1 0 → ⊥) → Accepted m p A → Accepted m p B → TwoAccepted (blocks m p) A B
 two-accepted m p A B bytes size one n a b =
     record {
-      same-framing = record { lines = bytes; accepted = a; one-length = size; one-framing = one };
-      accepted = b;
+      same-framing =
+          record { lines = bytes; one-length = size; has-framing = has-framing m p A (accepted-found m p A a); one-framing = one };
+      accepted = (a, b);
       unequal = λ e. n (ap (λ l. getD l 1 0) e);
     }
 

@@ -7,14 +7,21 @@ use Rattle.division.proofs.Generators.{ccitt16-even, ibm16-even, order-ccitt16,
 use Rattle.cyclic.specs.Check.{Parameters, method3, method4, method5, method6}
 use Rattle.cyclic.specs.Laws.{OfWidth}
 use Rattle.cyclic.proofs.Methods.{width-3, width-4, width-5, width-6}
+use Rattle.block.specs.declared.Method.{Method}
 use Rattle.block.specs.declared.Method.the-variants as method
-use Rattle.guarantees.specs.Lines.{Lines}
+use Rattle.block.specs.declared.Parity.{Parity}
+use Rattle.guarantees.specs.Lines.{Lines, AcceptedHasFraming}
+use Rattle.guarantees.specs.Blocks.{blocks}
 use Rattle.guarantees.specs.Frames.{frames}
 use Rattle.guarantees.specs.Third.{AnyMethod, method-1, method-2, method-3, method-4, method-5, method-6, linesOf, Has16Bits, ThirdProperty}
 use Rattle.guarantees.proofs.Lines.Masks.{Bridge, differ-where-checked, equal-where-checked}
 use Rattle.guarantees.proofs.Lines.Cyclic.{CyclicPairs, no-burst, never-odd, accepted-where-apart, at-least-three}
+use Rattle.guarantees.proofs.Frames.Numbers as frame-numbers
+use Rattle.guarantees.proofs.Frames.Framing as frame-framing
 use Rattle.guarantees.proofs.Frames.Bridge.{frame-bridge}
 use Rattle.guarantees.proofs.Frames.Cyclic.{cyclic-frames}
+use Rattle.guarantees.proofs.Blocks.Numbers as block-numbers
+use Rattle.guarantees.proofs.Blocks.Framing as block-framing
 use Rattle.guarantees.proofs.Blocks.Bridge.{block-bridge}
 use Rattle.guarantees.proofs.Blocks.Cyclic.{cyclic-pairs-3, cyclic-pairs-4, any-parity}
 use Rattle.guarantees.proofs.Blocks.Parities.{distance-parity, distance-matrix, burst-matrix}
@@ -26,6 +33,20 @@ bridge (method-3 p) = block-bridge method.Cyclic p
 bridge (method-4 p) = block-bridge method.CyclicAlternative p
 bridge method-5 = frame-bridge method5
 bridge method-6 = frame-bridge method6
+
+block-has-framing : (m : Method) (p : Parity) → AcceptedHasFraming (blocks m p)
+block-has-framing m p A acc = block-framing.has-framing m p A (block-framing.accepted-found m p A acc)
+
+frame-has-framing : (m : Parameters) → AcceptedHasFraming (frames m)
+frame-has-framing m A acc = frame-framing.has-framing m A (frame-framing.accepted-found m A acc)
+
+accepted-has-framing : (m : AnyMethod) → AcceptedHasFraming (linesOf m)
+accepted-has-framing (method-1 p) = block-has-framing method.Parity p
+accepted-has-framing (method-2 p) = block-has-framing method.Matrix p
+accepted-has-framing (method-3 p) = block-has-framing method.Cyclic p
+accepted-has-framing (method-4 p) = block-has-framing method.CyclicAlternative p
+accepted-has-framing method-5 = frame-has-framing method5
+accepted-has-framing method-6 = frame-has-framing method6
 
 -- what the lines of a 16-bit check rest on
 record Check16 (L : Lines) : Type 0 where
@@ -74,6 +95,9 @@ check-16 method-6 h = absurd h
 pub third-property : ThirdProperty
 third-property =
     record {
+      accepted-blocks = block-numbers.accepts-by-number;
+      accepted-frames = frame-numbers.accepts-by-number;
+      accepted-has-framing = accepted-has-framing;
       differ-where-checked = λ m. differ-where-checked (linesOf m) (bridge m);
       equal-where-checked = λ m. equal-where-checked (linesOf m) (bridge m);
       distance-parity = distance-parity;

@@ -9,12 +9,14 @@ use Rattle.frame.specs.Stuffing.{isFifth, runOn, stuff, unstuff}
 use Rattle.frame.specs.Frame.{flag, enclose, frameOf}
 use Rattle.frame.specs.Read.{framed}
 use Rattle.guarantees.specs.Frames.{Accepted}
-use Rattle.guarantees.proofs.Frames.Framing.{accepted}
+use Rattle.guarantees.proofs.Frames.Framing.{accepted-right}
 
 pub frame-16-accepted : Accepted method5 (frameOf method5 (bitsOf (0xFF ∷ [])))
 unfolding lowBits bitsOf checkBits checkedBits formula method5 divide remainder ccitt16 isFifth runOn stuff unstuff flag enclose frameOf framed
-frame-16-accepted = accepted method5 (frameOf method5 (bitsOf (0xFF ∷ []))) {s = checkedBits method5 (bitsOf (0xFF ∷ []))} refl refl
+frame-16-accepted =
+    accepted-right method5 (frameOf method5 (bitsOf (0xFF ∷ []))) (record { checked = checkedBits method5 (bitsOf (0xFF ∷ [])); is-found = refl }) .1 refl
 
 pub frame-32-accepted : Accepted method6 (frameOf method6 (bitsOf (0xFF ∷ [])))
 unfolding lowBits bitsOf checkBits checkedBits formula method6 divide remainder ieee32 isFifth runOn stuff unstuff flag enclose frameOf framed
-frame-32-accepted = accepted method6 (frameOf method6 (bitsOf (0xFF ∷ []))) {s = checkedBits method6 (bitsOf (0xFF ∷ []))} refl refl
+frame-32-accepted =
+    accepted-right method6 (frameOf method6 (bitsOf (0xFF ∷ []))) (record { checked = checkedBits method6 (bitsOf (0xFF ∷ [])); is-found = refl }) .1 refl

@@ -5,7 +5,7 @@ use native.Mathlib.Omega.{arith}
 use mathlib.Core.Bool.{Bool, true, false, cond}
 use mathlib.Core.List.{List, _++_, append-assoc, append-nil}
 use lib.Dec.{leb}
-use lib.ListN.{length, take, drop, length-append, take-append-drop}
+use lib.ListN.{length, take, drop, length-append, length-take, take-append-drop}
 use lib.Seq.{take-at, drop-at, take-append-le, length-take-le}
 use borrow.Author.Tests.{leb-true, le-leb, eq-eqb}
 use Rattle.bits.specs.Strings.{same, zeros}
@@ -19,10 +19,11 @@ use Rattle.cyclic.proofs.Checks.{length-check}
 use Rattle.frame.specs.Stuffing.{clean, stuff, unstuff}
 use Rattle.frame.specs.Frame.{width, flag, enclose, frameOf}
 use Rattle.frame.specs.Write as writing
-use Rattle.frame.specs.Read.{Framed, found, unframed, ask, between, framed, contentOf, checkIn, taken, refusal, askCheck, readBits, readFrame}
-use Rattle.guarantees.specs.Second.{FrameReadsBack, FrameWritesBack}
+use Rattle.frame.specs.Read.{Framed, found, unframed, between, framed, contentOf, checkIn, taken, refusal, askCheck, readBits, readFrame}
+use Rattle.guarantees.specs.Second.{AcceptedFrameIsTaken, FrameReadsBack, FrameWritesBack}
 use Rattle.guarantees.proofs.Frames.Unstuffing.{unstuff-stuff, stuff-unstuff}
-use Rattle.guarantees.proofs.Frames.Framing.{passed, CheckRight}
+use Rattle.guarantees.proofs.Frames.Numbers.{answer}
+use Rattle.guarantees.proofs.Frames.Framing.{passed, CheckRight, accepted-found, content, right-answer, accepted-right}
 use Rattle.guarantees.proofs.Frames.Bridge.{length-flag, whole}
 
 -- ---- the questions of writing, passed
@@ -91,6 +92,26 @@ module _ (s : List Bool) where
         le-leb (length s) (8 * m .limit + width m) l,
       )
 
+-- ---- reading from bytes
+
+-- bytes that begin with a frame read as its bits
+read-lent : (m : Parameters) (frame : List Bool) (lent : List ℕ) (room : ℕ) → take (length frame) (bitsOf lent) ≡ frame
+    → readFrame m (length frame) lent room ≡ readBits m frame room
+unfolding readFrame
+read-lent m frame lent room e =
+    let enough : length frame ≤ 8 * length lent = omega (arith, length-bitsOf lent, length-take (length frame) (bitsOf lent), ap length e) in
+    ap (λ t. cond t (readBits m (take (length frame) (bitsOf lent)) room) (refusal 31 0)) (le-leb _ _ enough) ∙ ap (λ x. readBits m x room) e
+
+pub accepted-is-taken : (m : Parameters) → AcceptedFrameIsTaken m
+accepted-is-taken m frame acc =
+    let r = accepted-found m frame acc in
+    let c = content m frame r in (
+      c,
+      λ room h. let e = right-answer m frame r (accepted-right m frame r .0 acc) room
+          ∙ ap (λ fits. answer true fits c) (le-leb (bytesFor (length c)) room h) in
+          (e, λ lent q. read-lent m frame lent room q ∙ e),
+    )
+
 -- ---- reading what was written
 
 module _ (m : Parameters) (w : ℕ) (wide : OfWidth w m) (eights : w % 8 ≡ 0) where
@@ -122,7 +143,7 @@ module _ (m : Parameters) (w : ℕ) (wide : OfWidth w m) (eights : w % 8 ≡ 0) 
         ∙ ap taken content-back
 
   pub frame-reads-back : FrameReadsBack m
-  unfolding readFrame readBits frameOf checkedBits
+  unfolding readBits frameOf checkedBits
   frame-reads-back content frame room space behind e h =
       let f = was-written m content frame room e in
       let c = bitsOf content in
@@ -132,12 +153,10 @@ module _ (m : Parameters) (w : ℕ) (wide : OfWidth w m) (eights : w % 8 ≡ 0) 
       ap (take (length frame)) (bitsOf-append (pack frame) behind)
       ∙ take-append-le (length frame) (bitsOf (pack frame)) (bitsOf behind) (omega (arith, length-bitsOf (pack frame), length-pack frame))
       ∙ take-bitsOf-pack frame in
-      let lent : length frame ≤ 8 * length (pack frame ++ behind) = omega (arith, length-append (pack frame) behind, length-pack frame) in
       let found-it : framed m frame ≡ found (c ++ checkBits m c) =
       ap (framed m) (f .bits)
       ∙ framed-enclosed (c ++ checkBits m c) m (omega (arith, length-s c, n)) (omega (arith, length-s c, n, f .some)) (omega (arith, length-s c, n, f .within)) in
-      ap (λ t. cond t (askCheck m space (framed m (take (length frame) (bitsOf (pack frame ++ behind))))) (refusal 31 0)) (le-leb _ _ lent)
-      ∙ ap (λ x. askCheck m space (framed m x)) told
+      read-lent m frame (pack frame ++ behind) space told
       ∙ ap (askCheck m space) found-it
       ∙ taken-back c (length content) space n h
 
