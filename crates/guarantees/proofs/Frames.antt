@@ -4,5 +4,4 @@ pub mod Numbers
 pub mod Framing
 pub mod Bridge
 pub mod Cyclic
-pub mod Accepted
 pub mod RoundTrip

@@ -34,10 +34,10 @@ bridge (method-4 p) = block-bridge method.CyclicAlternative p
 bridge method-5 = frame-bridge method5
 bridge method-6 = frame-bridge method6
 
-block-has-framing : (m : Method) (p : Parity) → AcceptedHasFraming (blocks m p)
+pub block-has-framing : (m : Method) (p : Parity) → AcceptedHasFraming (blocks m p)
 block-has-framing m p A acc = block-framing.has-framing m p A (block-framing.accepted-found m p A acc)
 
-frame-has-framing : (m : Parameters) → AcceptedHasFraming (frames m)
+pub frame-has-framing : (m : Parameters) → AcceptedHasFraming (frames m)
 frame-has-framing m A acc = frame-framing.has-framing m A (frame-framing.accepted-found m A acc)
 
 accepted-has-framing : (m : AnyMethod) → AcceptedHasFraming (linesOf m)
