@@ -4,4 +4,5 @@ pub mod Numbers
 pub mod Framing
 pub mod Bridge
 pub mod Cyclic
+pub mod Taken
 pub mod RoundTrip

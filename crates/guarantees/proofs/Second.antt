@@ -6,7 +6,8 @@ use Rattle.guarantees.specs.Second.{SecondProperty}
 use Rattle.guarantees.proofs.Written.Block.{written-reads-back}
 use Rattle.guarantees.proofs.Taken.Block.{read-writes-back}
 use Rattle.guarantees.proofs.Taken.Questions.{accepted-is-taken}
-use Rattle.guarantees.proofs.Frames.RoundTrip as frames
+use Rattle.guarantees.proofs.Frames.Taken as frames
+use Rattle.guarantees.proofs.Frames.RoundTrip.{frame-reads-back, frame-writes-back}
 
 pub second-property : SecondProperty
 second-property =
@@ -16,8 +17,8 @@ second-property =
       accepted-is-taken = accepted-is-taken;
       accepted-is-taken-5 = frames.accepted-is-taken method5;
       accepted-is-taken-6 = frames.accepted-is-taken method6;
-      frame-reads-back-5 = frames.frame-reads-back method5 16 width-5 refl;
-      frame-reads-back-6 = frames.frame-reads-back method6 32 width-6 refl;
-      frame-writes-back-5 = frames.frame-writes-back method5 16 width-5 refl;
-      frame-writes-back-6 = frames.frame-writes-back method6 32 width-6 refl;
+      frame-reads-back-5 = frame-reads-back method5 16 width-5 refl;
+      frame-reads-back-6 = frame-reads-back method6 32 width-6 refl;
+      frame-writes-back-5 = frame-writes-back method5 16 width-5 refl;
+      frame-writes-back-6 = frame-writes-back method6 32 width-6 refl;
     }

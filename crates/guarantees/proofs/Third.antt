@@ -26,7 +26,7 @@ use Rattle.guarantees.proofs.Blocks.Bridge.{block-bridge}
 use Rattle.guarantees.proofs.Blocks.Cyclic.{cyclic-pairs-3, cyclic-pairs-4, any-parity}
 use Rattle.guarantees.proofs.Blocks.Parities.{distance-parity, distance-matrix, burst-matrix}
 
-bridge : (m : AnyMethod) → Bridge (linesOf m)
+pub bridge : (m : AnyMethod) → Bridge (linesOf m)
 bridge (method-1 p) = block-bridge method.Parity p
 bridge (method-2 p) = block-bridge method.Matrix p
 bridge (method-3 p) = block-bridge method.Cyclic p
@@ -49,12 +49,12 @@ accepted-has-framing method-5 = frame-has-framing method5
 accepted-has-framing method-6 = frame-has-framing method6
 
 -- what the lines of a 16-bit check rest on
-record Check16 (L : Lines) : Type 0 where
-  parameters : Parameters
-  wide : OfWidth 16 parameters
-  pairs : CyclicPairs parameters 16 L
-  terms : EvenTerms (parameters .generator)
-  order : OrderIs (parameters .generator) order16 (8 * parameters .limit + 16 - 1)
+pub record Check16 (L : Lines) : Type 0 where
+  pub parameters : Parameters
+  pub wide : OfWidth 16 parameters
+  pub pairs : CyclicPairs parameters 16 L
+  pub terms : EvenTerms (parameters .generator)
+  pub order : OrderIs (parameters .generator) order16 (8 * parameters .limit + 16 - 1)
 
 terms-3 : EvenTerms (method3 .generator)
 unfolding method3
@@ -84,7 +84,7 @@ order-6 : OrderAbove (method6 .generator) (8 * method6 .limit + 32 - 1)
 unfolding method6
 order-6 = order-ieee32
 
-check-16 : (m : AnyMethod) → Has16Bits m → Check16 (linesOf m)
+pub check-16 : (m : AnyMethod) → Has16Bits m → Check16 (linesOf m)
 check-16 (method-1 p) h = absurd h
 check-16 (method-2 p) h = absurd h
 check-16 (method-3 p) h = record { parameters = method3; wide = width-3; pairs = cyclic-pairs-3 p; terms = terms-3; order = order-3 }

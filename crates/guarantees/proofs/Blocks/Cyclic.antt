@@ -5,7 +5,7 @@ use Prim.Native.Nat.{ℕ, _+_}
 use native.Mathlib.Omega.{arith}
 use mathlib.Core.Bool.{false, true≢false}
 use mathlib.Core.List.{List, _++_}
-use lib.ListN.{length, length-append, length-drop}
+use lib.ListN.{length, length-drop}
 use Rattle.bits.specs.Bytes.{bitsOf}
 use Rattle.bits.proofs.Bytes.{length-bitsOf, bitsOf-append}
 use Rattle.cyclic.specs.Check.{Parameters, checkBits, method3, method4}
@@ -20,7 +20,7 @@ use Rattle.guarantees.specs.Blocks.{Accepted, checkedBits, blocks}
 use Rattle.guarantees.proofs.Lines.Masks.{length-checked}
 use Rattle.guarantees.proofs.Lines.Cyclic.{CyclicPairs}
 use Rattle.guarantees.proofs.Blocks.Framing.{Found, one-framing, accepted-right}
-use Rattle.guarantees.proofs.Blocks.Bridge.{checked-bits, all-passed, block-bridge}
+use Rattle.guarantees.proofs.Blocks.Bridge.{checked-bits, all-passed, checked-length, block-bridge}
 
 -- ---- one law over both methods
 
@@ -41,8 +41,8 @@ module _ (m : Method) (k : Parameters) (rule : (p : Parity) (bs : List ℕ) → 
         length-bitsOf (checkBytes (r .marks) line)
         ∙ omega (arith, length-drop (length (r .marks)) line, all-passed m p line r .closes)
 
-    whole-length : length (checkedBits m p line) ≡ length (bitsOf (counted (r .marks) line)) + 16
-    whole-length = ap length whole ∙ simp (length-append, check-length) refl
+    content-length : length (checkedBits m p line) ≡ length (bitsOf (counted (r .marks) line)) + 16
+    content-length = omega (arith, checked-length m p line r, length-bitsOf (counted (r .marks) line))
 
   cyclic-pairs : (p : Parity) → CyclicPairs k 16 (blocks m p)
   cyclic-pairs p A B s =
@@ -58,9 +58,9 @@ module _ (m : Method) (k : Parameters) (rule : (p : Parity) (bs : List ℕ) → 
         check-b = bitsOf (checkBytes (o .b .marks) B);
         whole-b = whole p B (o .b);
         right-b = right p B (o .b);
-        one-length = omega (arith, whole-length p A (o .a), whole-length p B (o .b), length-checked (blocks m p) (block-bridge m p) A B s);
+        one-length = omega (arith, content-length p A (o .a), content-length p B (o .b), length-checked (blocks m p) (block-bridge m p) A B s);
         check-length = check-length p B (o .b);
-        within = omega (arith, whole-length p A (o .a), length-bitsOf ca, all-passed m p A (o .a) .few, limit);
+        within = omega (arith, content-length p A (o .a), length-bitsOf ca, all-passed m p A (o .a) .few, limit);
       }
 
 pub cyclic-pairs-3 : (p : Parity) → CyclicPairs method3 16 (blocks method.Cyclic p)

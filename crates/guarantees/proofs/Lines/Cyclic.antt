@@ -1,10 +1,10 @@
 -- What a cyclic check detects on lines: the laws of division, carried over by the checked bits. Assumes nothing.
 use mathlib.Core.Path.{_≡_, refl, sym, ap, _∙_}
 use mathlib.Core.Logic.{_↔_}
-use Prim.Native.Nat.{ℕ, _+_, _-_, _*_, _%_, _≤_, _<_}
+use Prim.Native.Nat.{ℕ, suc, _+_, _-_, _*_, _%_, _≤_, _<_}
 use native.Mathlib.Omega.{arith}
 use mathlib.Core.Bool.{Bool, true, false}
-use mathlib.Core.List.{List, _++_}
+use mathlib.Core.List.{List, [], _∷_, _++_}
 use lib.Dec.{leb}
 use lib.ListN.{length}
 use borrow.Author.Tests.{leb-true, leb-false}
@@ -16,7 +16,8 @@ use Rattle.division.proofs.Detection.{burst, even, two-bits, three-bits}
 use Rattle.cyclic.specs.Check.{Parameters, checkBits}
 use Rattle.cyclic.specs.Laws.{OfWidth}
 use Rattle.cyclic.proofs.Checks.{one-remainder}
-use Rattle.guarantees.specs.Lines.{Lines, SameFraming, TwoAccepted, distance, AtLeast, NoBurst, NeverOdd, AcceptedWhereApart}
+use Rattle.guarantees.specs.Lines.{Lines, SameFraming, TwoAccepted, distance, differingChecked, AtLeast, NoBurst, NeverOdd, AcceptedWhereApart}
+use Rattle.guarantees.specs.Beyond.{AtLeastBelow}
 use Rattle.guarantees.proofs.Lines.Masks.{Bridge, differ-where-checked, equal-where-checked, length-checked}
 
 -- two lines of one length and framing, each of which is accepted where its check is right
@@ -98,3 +99,23 @@ module _ (m : Parameters) (w : ℕ) (wide : OfWidth w m) (L : Lines) (bridge : B
       go true e = leb-true 3 (distance L A B) e
       go false e =
           absurd (t .unequal (equal-where-checked L bridge A B (t .same-framing) (few (omega (arith, leb-false 3 (distance L A B) e)))))
+
+  -- never odd, and two bits n apart do not fit into n checked bits
+  pub at-least-four : EvenTerms (m .generator) → (n : ℕ) → 0 < n → OrderIs (m .generator) n (8 * m .limit + w - 1) → AtLeastBelow 4 (suc n) L
+  at-least-four terms n pos order A B t few = go (differingChecked L A B) refl
+    where
+      counts : {ns : List ℕ} → differingChecked L A B ≡ ns → distance L A B ≡ length ns
+      counts e = differ-where-checked L bridge A B (t .same-framing) .1 ∙ ap length e
+
+      go : (ns : List ℕ) → differingChecked L A B ≡ ns → 4 ≤ distance L A B
+      go [] e = absurd (no-burst A B t 0 (omega arith) (rw e tt))
+      go (i ∷ []) e = absurd (never-odd terms A B t (ap (λ x. x % 2) (counts e)))
+      go (i ∷ j ∷ []) e =
+          let a = L .checkedBits A in
+          let b = L .checkedBits B in
+          let d = two-differing a b i j e in
+          let q = accepted-where-apart n pos order A B (t .accepted .0) (t .same-framing) i j e .0 (t .accepted .1) in
+          let one = length-checked L bridge A B (t .same-framing) in
+          absurd (omega (arith, d .apart, d .inside, length-xor a b one, one))
+      go (i ∷ j ∷ k ∷ []) e = absurd (never-odd terms A B t (ap (λ x. x % 2) (counts e)))
+      go (i ∷ j ∷ k ∷ l ∷ ns) e = omega (arith, counts e)
