@@ -1,6 +1,6 @@
 -- What goes beyond the owner's sentences holds. Assumes nothing.
 use mathlib.Core.Path.{_≡_, refl, ap}
-use Prim.Native.Nat.{_-_}
+use Prim.Native.Nat.{ℕ, _+_, _-_, _*_, _<_}
 use native.Mathlib.Omega.{arith}
 use lib.ListN.{length}
 use lib.Seq.{length-take-le}
@@ -29,8 +29,9 @@ distance-16 m h =
     let c = check-16 m h in
     at-least-four (c .parameters) 16 (c .wide) (linesOf m) (bridge m) (c .pairs) (c .terms) order16 (omega arith) (c .order)
 
-distance-blocks : (m : Method) (p : Parity) → checkLength m ≡ 2 → AtLeastBelow 4 32768 (blocks m p) → BlocksAtLeast 4 4093 m p
-distance-blocks m p two least A B t b room e few =
+distance-blocks : (m : Method) (p : Parity) (most : ℕ) → checkLength m ≡ 2 → 8 * (most + 2) < 32768 → AtLeastBelow 4 32768 (blocks m p)
+    → BlocksAtLeast 4 most m p
+distance-blocks m p most two fits least A B t b room e few =
     let k = taken-passed m p A room e in
     least A B t (omega (arith, checked-length m p A (k .framing), ap (λ (b : Parts). b .counted) (k .parts)))
 
@@ -48,7 +49,7 @@ pub beyond-the-owner : BeyondTheOwner
 beyond-the-owner =
     record {
       distance-16 = distance-16;
-      distance-3 = λ p. distance-blocks method.Cyclic p refl (distance-16 (method-3 p) tt);
-      distance-4 = λ p. distance-blocks method.CyclicAlternative p refl (distance-16 (method-4 p) tt);
+      distance-3 = λ p. distance-blocks method.Cyclic p _ refl (omega arith) (distance-16 (method-3 p) tt);
+      distance-4 = λ p. distance-blocks method.CyclicAlternative p _ refl (omega arith) (distance-16 (method-4 p) tt);
       distance-5 = distance-frames;
     }
