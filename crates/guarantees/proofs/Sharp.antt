@@ -183,7 +183,8 @@ burst-6 : DifferInBurst 33 (linesOf method-6)
 unfolding lowBits bitsOf checkBits cyclic.checkedBits formula method6 divide remainder ieee32 isFifth runOn stuff unstuff behindFive flag enclose frameOf frame-reading.framed frame-reading.framingOf frame-lines.checkedBits
 burst-6 =
     in-burst (third-property .burst-32)
-    (frame-pair method6 (0x9A ∷ 0xD7 ∷ 0xC5 ∷ 0xB3 ∷ 0xD0 ∷ []) (0xDB ∷ 0xD1 ∷ 0xB4 ∷ 0x68 ∷ 0xD1 ∷ []) refl refl (refl, refl) (refl, refl) refl)
+    (frame-pair method6 (0x9A ∷ 0xD7 ∷ 0xC5 ∷ 0xB3 ∷ 0xD0 ∷ []) (0xDB ∷ 0xD1 ∷ 0xB4 ∷ 0x68 ∷ 0xD1 ∷ [])
+    refl refl (refl, refl) (refl, refl) refl)
     {ns = 0 ∷ 6 ∷ 9 ∷ 10 ∷ 16 ∷ 20 ∷ 21 ∷ 22 ∷ 24 ∷ 25 ∷ 27 ∷ 28 ∷ 30 ∷ 31 ∷ 32 ∷ []} refl (omega arith)
 
 burst-16 : (m : AnyMethod) → Has16Bits m → DifferInBurst 17 (linesOf m)

@@ -97,6 +97,7 @@ third-property =
     record {
       accepted-blocks = block-numbers.accepts-by-number;
       accepted-frames = frame-numbers.accepts-by-number;
+      accepted-lent = frame-numbers.lent-by-number;
       accepted-has-framing = accepted-has-framing;
       differ-where-checked = λ m. differ-where-checked (linesOf m) (bridge m);
       equal-where-checked = λ m. equal-where-checked (linesOf m) (bridge m);

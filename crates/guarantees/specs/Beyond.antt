@@ -29,8 +29,8 @@ BlocksAtLeast n most m p =
 -- frames, by the bytes of the content with which reading takes A
 abbrev pub FramesAtLeast : ℕ → ℕ → Parameters → Type 0
 FramesAtLeast n most m =
-    (A B : List Bool) → TwoAccepted (frames m) A B → (content : List Bool) (room : ℕ) → frame-reading.readBits m A room ≡ frame-reading.taken content
-    → length content ≤ 8 * most → n ≤ distance (frames m) A B
+    (A B : List Bool) → TwoAccepted (frames m) A B → (content : List Bool) (room : ℕ)
+    → frame-reading.readBits m A room ≡ frame-reading.taken content → length content ≤ 8 * most → n ≤ distance (frames m) A B
 
 pub record BeyondTheOwner : Type 0 where
   -- fewer than 32,768 checked bits

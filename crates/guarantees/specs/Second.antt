@@ -46,7 +46,8 @@ AcceptedIsTaken =
 abbrev pub FrameTaken : Parameters → List Bool → List Bool → ℕ → Type 0
 FrameTaken m frame content room =
     (frame-reading.readBits m frame room ≡ frame-reading.taken content)
-    × ((lent : List ℕ) → take (length frame) (bitsOf lent) ≡ frame → frame-reading.readFrame m (length frame) lent room ≡ frame-reading.taken content)
+    × ((lent : List ℕ) → take (length frame) (bitsOf lent) ≡ frame
+    → frame-reading.readFrame m (length frame) lent room ≡ frame-reading.taken content)
 
 -- an accepted frame is taken wherever the output is long enough for its content
 abbrev pub AcceptedFrameIsTaken : Parameters → Type 0

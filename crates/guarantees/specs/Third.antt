@@ -1,14 +1,14 @@
 -- The owner's third property, sentence by sentence, over lines of methods 1 to 6. Assumes nothing.
 use mathlib.Core.Path.{_≡_}
 use Prim.Native.Nat.{ℕ}
-use mathlib.Core.List.{List}
 use mathlib.Core.Bool.{Bool}
+use mathlib.Core.List.{List}
 use Rattle.cyclic.specs.Check.{Parameters, method5, method6}
 use Rattle.block.specs.declared.Method.{Method}
 use Rattle.block.specs.declared.Method.the-variants as method
 use Rattle.block.specs.declared.Parity.{Parity}
 use Rattle.block.specs.Read.{readBlock}
-use Rattle.frame.specs.Read.{readBits}
+use Rattle.frame.specs.Read.{readBits, readFrame}
 use Rattle.guarantees.specs.Lines.{Lines, AcceptedHasFraming, DifferWhereChecked, EqualWhereChecked, AtLeast, NoBurst, NeverOdd, AcceptedWhereApart}
 use Rattle.guarantees.specs.Blocks as block-lines
 use Rattle.guarantees.specs.Frames as frame-lines
@@ -41,6 +41,7 @@ pub record ThirdProperty : Type 0 where
   -- accepted: the number is none of 11 to 18, or 31 to 37, and the line has a framing
   pub accepted-blocks : (m : Method) (p : Parity) (line : List ℕ) (room : ℕ) → block-lines.AcceptsByNumber (readBlock m p line room)
   pub accepted-frames : (m : Parameters) (frame : List Bool) (room : ℕ) → frame-lines.AcceptsByNumber (readBits m frame room)
+  pub accepted-lent : (m : Parameters) (told : ℕ) (lent : List ℕ) (room : ℕ) → frame-lines.AcceptsByNumber (readFrame m told lent room)
   pub accepted-has-framing : (m : AnyMethod) → AcceptedHasFraming (linesOf m)
   -- with one framing each bit in which two lines differ, taken or not, is a checked bit
   pub differ-where-checked : (m : AnyMethod) → DifferWhereChecked (linesOf m)

@@ -1,4 +1,4 @@
--- The numbers of reading a frame's told bits: 32 to 36 before the check, 32 to 38 in all, so that accepted means none of 31 to 37.
+-- The numbers of reading a frame: 31 to 36 before the check, 31 to 38 in all, so that accepted means none of 31 to 37.
 -- Assumes nothing.
 use Prim.Native.Nat.{ℕ, _+_, _-_, _*_, _%_, _≤_}
 use native.Mathlib.Omega.{arith}
@@ -7,11 +7,11 @@ use mathlib.Core.List.{List}
 use lib.Dec.{leb, eqb}
 use lib.ListN.{length, take, drop}
 use Rattle.bits.specs.Strings.{same}
-use Rattle.bits.specs.Bytes.{bytesFor}
+use Rattle.bits.specs.Bytes.{bitsOf, bytesFor}
 use Rattle.cyclic.specs.Check.{Parameters, checkBits}
 use Rattle.frame.specs.Stuffing.{Unstuffed, clean, missing, unstuff}
 use Rattle.frame.specs.Frame.{width, flag}
-use Rattle.frame.specs.Read.{Framed, found, unframed, ask, askZeros, between, framed, contentOf, checkIn, ReadAnswer, taken, refusal, askCheck, readBits}
+use Rattle.frame.specs.Read.{Framed, found, unframed, ask, askZeros, between, framed, contentOf, checkIn, ReadAnswer, taken, refusal, askCheck, readBits, readFrame}
 use Rattle.guarantees.specs.Frames.{AcceptsByNumber}
 use Rattle.guarantees.proofs.Lines.Numbers.{only-last}
 
@@ -68,3 +68,12 @@ module _ (m : Parameters) (frame : List Bool) (room : ℕ) where
   pub accepts-by-number : AcceptsByNumber (readBits m frame room)
   unfolding readBits
   accepts-by-number = by-number (readBits m frame room) (check-numbered (framed m frame) (framed-numbered m frame))
+
+-- and of reading from bytes, where 31 is asked first
+pub lent-by-number : (m : Parameters) (told : ℕ) (lent : List ℕ) (room : ℕ) → AcceptsByNumber (readFrame m told lent room)
+unfolding readFrame
+lent-by-number m told lent room = go (leb told (8 * length lent))
+  where
+    go : (t : Bool) → AcceptsByNumber (cond t (readBits m (take told (bitsOf lent)) room) (refusal 31 0))
+    go true = accepts-by-number m (take told (bitsOf lent)) room
+    go false = by-number (refusal 31 0) (omega arith)

@@ -43,7 +43,8 @@ module _ (m : Parameters) (w : ℕ) (wide : OfWidth w m) (L : Lines) (bridge : B
     accepted-remainder =
         let c = pairs A B s in
         let p = m .generator in
-        let r = one-remainder w m wide (c .content-a) (c .content-b) (c .check-a) (c .check-b) (c .one-length) (c .right-a .0 acc) (c .check-length) in (
+        let right = c .right-a .0 acc in
+        let r = one-remainder w m wide (c .content-a) (c .content-b) (c .check-a) (c .check-b) (c .one-length) right (c .check-length) in (
           λ b. ap (remainder p) (c .whole-a) ∙ r .0 (c .right-b .0 b) ∙ sym (ap (remainder p) (c .whole-b)),
           λ e. c .right-b .1 (r .1 (sym (ap (remainder p) (c .whole-a)) ∙ e ∙ ap (remainder p) (c .whole-b))),
         )
