@@ -2,6 +2,7 @@ pub mod FramingCases
 pub mod FramingLaws
 pub mod HeaderWalk
 pub mod KeptBySign
+pub mod OneToOne
 pub mod Reading
 pub mod TextWalk
 pub mod Turns

@@ -1,4 +1,5 @@
 -- The third property of blocks. Assumes nothing.
+pub mod Numbers
 pub mod Framing
 pub mod Bridge
 pub mod Cyclic

@@ -7,4 +7,5 @@ pub mod Writing
 pub mod Written
 pub mod Taken
 pub mod Second
+pub mod Beyond
 pub mod Rows

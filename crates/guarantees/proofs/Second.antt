@@ -6,6 +6,7 @@ use Rattle.guarantees.specs.Second.{SecondProperty}
 use Rattle.guarantees.proofs.Written.Block.{written-reads-back}
 use Rattle.guarantees.proofs.Taken.Block.{read-writes-back}
 use Rattle.guarantees.proofs.Taken.Questions.{accepted-is-taken}
+use Rattle.guarantees.proofs.Frames.Taken as frames
 use Rattle.guarantees.proofs.Frames.RoundTrip.{frame-reads-back, frame-writes-back}
 
 pub second-property : SecondProperty
@@ -14,6 +15,8 @@ second-property =
       written-reads-back = written-reads-back;
       read-writes-back = read-writes-back;
       accepted-is-taken = accepted-is-taken;
+      accepted-is-taken-5 = frames.accepted-is-taken method5;
+      accepted-is-taken-6 = frames.accepted-is-taken method6;
       frame-reads-back-5 = frame-reads-back method5 16 width-5 refl;
       frame-reads-back-6 = frame-reads-back method6 32 width-6 refl;
       frame-writes-back-5 = frame-writes-back method5 16 width-5 refl;

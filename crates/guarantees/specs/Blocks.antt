@@ -1,5 +1,7 @@
 -- Blocks as lines: accepted, checked bits (document 01, part 4). Assumes nothing.
-use Prim.Native.Nat.{ℕ, _≤_}
+use mathlib.Core.Path.{_≡_}
+use mathlib.Core.Logic.{_↔_}
+use Prim.Native.Nat.{ℕ}
 use mathlib.Core.Bool.{Bool, true}
 use mathlib.Core.List.{List, [], _∷_, _++_}
 use lib.ListN.{length, replicate}
@@ -8,17 +10,26 @@ use Rattle.block.specs.declared.Method.{Method}
 use Rattle.block.specs.declared.Parity.{Parity}
 use Rattle.block.specs.declared.Mark.{Mark}
 use Rattle.block.specs.Marks.{isCounted, counted, checkBytes}
-use Rattle.block.specs.Read.{Framed, found, unframed, framed, Framing, framingOf, ReadAnswer, taken, refusal, readBlock}
-use Rattle.guarantees.specs.Lines.{Lines}
+use Rattle.block.specs.Read.{Framed, found, unframed, framed, Framing, none, framingOf, ReadAnswer, taken, refusal, readBlock}
+use Rattle.guarantees.specs.Lines.{NoneOf, Lines}
+
+-- the line is taken, or its output is too short
+abbrev pub Accepts : ReadAnswer → Type 0
+Accepts (taken parts) = Unit
+Accepts (refusal number value) = number ≡ 19
+
+-- however long the output
+abbrev pub Accepted : Method → Parity → List ℕ → Type 0
+Accepted m p line = (room : ℕ) → Accepts (readBlock m p line room)
 
 -- the number of an answer; 0 where the line is taken
 abbrev pub numberOf : ReadAnswer → ℕ
 numberOf (taken parts) = 0
 numberOf (refusal number value) = number
 
--- none of 11 to 18, however long the output
-abbrev pub Accepted : Method → Parity → List ℕ → Type 0
-Accepted m p line = (room : ℕ) → 11 ≤ numberOf (readBlock m p line room) → numberOf (readBlock m p line room) ≤ 18 → ⊥
+-- accepted means none of 11 to 18
+abbrev pub AcceptsByNumber : ReadAnswer → Type 0
+AcceptsByNumber a = Accepts a ↔ NoneOf 11 18 (numberOf a)
 
 -- the bits of the counted bytes, then of the check
 abbrev pub checkedIn : List ℕ → Framed → List Bool
@@ -56,6 +67,7 @@ blocks m p =
       bits = bitsOf;
       Accepted = Accepted m p;
       Framing = Framing;
+      none = none;
       framingOf = framingOf m p;
       isChecked = isChecked m p;
       checkedBits = checkedBits m p;

@@ -1,22 +1,33 @@
 -- Frames as lines (document 01, part 4): a frame is its told bits. Assumes nothing.
-use Prim.Native.Nat.{ℕ, _≤_}
+use mathlib.Core.Path.{_≡_}
+use mathlib.Core.Logic.{_↔_}
+use Prim.Native.Nat.{ℕ}
 use mathlib.Core.Bool.{Bool}
 use mathlib.Core.List.{List, [], _++_}
 use lib.ListN.{length}
 use Rattle.bits.specs.Strings.{zeros, invert}
 use Rattle.cyclic.specs.Check.{Parameters}
 use Rattle.frame.specs.Stuffing.{behindFive}
-use Rattle.frame.specs.Read.{Framed, found, unframed, framed, between, Framing, framingOf, ReadAnswer, taken, refusal, readBits}
-use Rattle.guarantees.specs.Lines.{Lines}
+use Rattle.frame.specs.Read.{Framed, found, unframed, framed, between, Framing, none, framingOf, ReadAnswer, taken, refusal, readBits}
+use Rattle.guarantees.specs.Lines.{NoneOf, Lines}
+
+-- the frame is taken, or its output is too short
+abbrev pub Accepts : ReadAnswer → Type 0
+Accepts (taken content) = Unit
+Accepts (refusal number value) = number ≡ 38
+
+-- however long the output; of the told bits 31 is passed
+abbrev pub Accepted : Parameters → List Bool → Type 0
+Accepted m frame = (room : ℕ) → Accepts (readBits m frame room)
 
 -- the number of an answer; 0 where the frame is taken
 abbrev pub numberOf : ReadAnswer → ℕ
 numberOf (taken content) = 0
 numberOf (refusal number value) = number
 
--- none of 31 to 37, however long the output; of the told bits 31 is passed
-abbrev pub Accepted : Parameters → List Bool → Type 0
-Accepted m frame = (room : ℕ) → 31 ≤ numberOf (readBits m frame room) → numberOf (readBits m frame room) ≤ 37 → ⊥
+-- accepted means none of 31 to 37
+abbrev pub AcceptsByNumber : ReadAnswer → Type 0
+AcceptsByNumber a = Accepts a ↔ NoneOf 31 37 (numberOf a)
 
 -- the bits of the content, then of the check
 abbrev pub checkedIn : Framed → List Bool
@@ -43,6 +54,7 @@ frames m =
       bits = λ frame. frame;
       Accepted = Accepted m;
       Framing = Framing;
+      none = none;
       framingOf = framingOf m;
       isChecked = isChecked m;
       checkedBits = checkedBits m;

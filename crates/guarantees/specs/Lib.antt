@@ -2,6 +2,8 @@ pub mod Lines
 pub mod Blocks
 pub mod Frames
 pub mod Third
+pub mod Sharp
+pub mod Beyond
 pub mod Fill
 pub mod Second
 pub mod Rows

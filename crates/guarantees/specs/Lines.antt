@@ -9,6 +9,10 @@ use lib.ListN.{length}
 use Rattle.bits.specs.Strings.{xorBits}
 use Rattle.bits.specs.Differences.{consIf, setFrom, differing, Apart, Burst}
 
+-- a number that is none of those from first to last
+abbrev pub NoneOf : ℕ → ℕ → ℕ → Type 0
+NoneOf first last n = first ≤ n → n ≤ last → ⊥
+
 -- the lines of one method: for methods 1 and 2, under one parity setting
 pub record Lines : Type 1 where
   pub Line : Type 0
@@ -18,25 +22,31 @@ pub record Lines : Type 1 where
   pub size : Line → ℕ
   -- its bits in the order sent
   pub bits : Line → List Bool
-  -- none of 11 to 18, or 31 to 37
+  -- the rule of reading takes it, or refuses it for its output alone: 19, or 38
   pub Accepted : Line → Type 0
+  -- the places and values of its left-out bytes, or the places of its inserted zeros; `none` where it has no framing
   pub Framing : Type 0
+  pub none : Framing
   pub framingOf : Line → Framing
   -- of each of its bits, whether it is a checked bit; and the checked bits in their order
   pub isChecked : Line → List Bool
   pub checkedBits : Line → List Bool
 
--- an accepted line, and a line of its length and framing
+-- 11 to 17, or 31 to 36, are all passed
+abbrev pub HasFraming : (L : Lines) → L .Line → Type 0
+HasFraming L A = L .framingOf A ≡ L .none → ⊥
+
+-- two lines, taken or not, of one length and one framing
 pub record SameFraming (L : Lines) (A B : L .Line) : Type 0 where
   pub lines : L .IsLine A × L .IsLine B
-  pub accepted : L .Accepted A
   pub one-length : L .size A ≡ L .size B
+  pub has-framing : HasFraming L A
   pub one-framing : L .framingOf A ≡ L .framingOf B
 
 -- two unequal lines, both accepted, with one method, one length, one framing and one parity setting
 pub record TwoAccepted (L : Lines) (A B : L .Line) : Type 0 where
   pub same-framing : SameFraming L A B
-  pub accepted : L .Accepted B
+  pub accepted : L .Accepted A × L .Accepted B
   pub unequal : A ≡ B → ⊥
 
 -- the bits in which two lines differ, by their places on the line
@@ -61,6 +71,10 @@ chosen (b ∷ bs) [] = []
 chosen (b ∷ bs) (n ∷ ns) = consIf b n (chosen bs ns)
 
 -- ---- what is said of the lines of a method
+
+-- an accepted line has a framing
+abbrev pub AcceptedHasFraming : Lines → Type 0
+AcceptedHasFraming L = (A : L .Line) → L .Accepted A → HasFraming L A
 
 -- with one framing each differing bit is a checked bit: they are the differing checked bits, in number and in order
 abbrev pub DifferWhereChecked : Lines → Type 0
@@ -87,4 +101,4 @@ NeverOdd L = (A B : L .Line) → TwoAccepted L A B → distance L A B % 2 ≡ 1 
 -- where the line B is the accepted line A with just two checked bits changed, it is accepted exactly when these are n apart
 abbrev pub AcceptedWhereApart : ℕ → Lines → Type 0
 AcceptedWhereApart n L =
-    (A B : L .Line) → SameFraming L A B → (i j : ℕ) → differingChecked L A B ≡ i ∷ j ∷ [] → L .Accepted B ↔ Apart n i j
+    (A B : L .Line) → L .Accepted A → SameFraming L A B → (i j : ℕ) → differingChecked L A B ≡ i ∷ j ∷ [] → L .Accepted B ↔ Apart n i j

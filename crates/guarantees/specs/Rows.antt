@@ -4,9 +4,9 @@ use mathlib.Core.Bool.{Bool, true, false, _&&_}
 use mathlib.Core.List.{List, [], _∷_}
 use lib.Dec.{eqb}
 use lib.ListN.{length}
-use Rattle.bits.specs.Bytes.{bitsOf, pack}
+use Rattle.bits.specs.Bytes.{pack}
 use Rattle.bits.specs.Differences.{differingBits}
-use Rattle.cyclic.specs.Check.{Parameters, checkBits, method5}
+use Rattle.cyclic.specs.Check.{Parameters, method5}
 use Rattle.number.specs.Number.{Verdict, repeat, lost, receiving}
 use Rattle.block.specs.declared.Method.{Method}
 use Rattle.block.specs.declared.Method.the-variants.{Matrix, Cyclic, CyclicAlternative}
@@ -18,6 +18,7 @@ use Rattle.block.specs.declared.EndSign.{EndSign}
 use Rattle.block.specs.declared.EndSign.the-variants.{Etx, Etb}
 use Rattle.block.specs.Marks.{LeftOutByte}
 use Rattle.block.specs.Read.{Framing, none, framing, framingOf, ReadAnswer, taken, refusal, readBlock}
+use Rattle.frame.specs.Read.{Framed, found, unframed, framed, checkIn}
 use Rattle.frame.specs.Write as frames
 
 -- what is put to a rule: a line to read; a line to read and to compare with row 1; a content to write as a frame; n, c and the
@@ -28,8 +29,8 @@ pub data Row : Type 0 where
   write : Parameters → List ℕ → Row
   receive : ℕ → ℕ → List ℕ → Row
 
--- what it answers: to a comparison also the number of differing bits and whether the framings are one; of a frame its check and
--- its number of bits
+-- what it answers: to a comparison also the number of differing bits and whether the framings are one; of a written frame the
+-- check in it and its number of bits
 pub data Result : Type 0 where
   block : ReadAnswer → Result
   compared : ReadAnswer → ℕ → Bool → Result
@@ -58,9 +59,15 @@ sameFraming (framing xs) (framing ys) = sameBytes xs ys
 abbrev pub row1 : List ℕ
 row1 = 0x82 ∷ 0x41 ∷ 0x03 ∷ 0x42 ∷ []
 
-abbrev pub frameResult : Parameters → List ℕ → frames.WriteAnswer → Result
-frameResult m content (frames.written bits) = frame (pack (checkBits m (bitsOf content))) (length bits)
-frameResult m content (frames.refusal number value) = refused number value
+-- the check of what stands between the flags of a frame, its inserted zeros removed
+abbrev pub checkFound : Parameters → Framed → List ℕ
+checkFound m (found s) = pack (checkIn m s)
+checkFound m (unframed number value) = []
+
+-- a written frame by the check in its bits and by their number
+abbrev pub frameResult : Parameters → frames.WriteAnswer → Result
+frameResult m (frames.written bits) = frame (checkFound m (framed m bits)) (length bits)
+frameResult m (frames.refusal number value) = refused number value
 
 -- each verdict, c going on from one number to the next
 abbrev pub verdictsFrom : ℕ → ℕ → List ℕ → List Verdict
@@ -70,7 +77,7 @@ verdictsFrom n c (b ∷ bs) = receiving n c b .verdict ∷ verdictsFrom n (recei
 abbrev pub resultOf : Row → Result
 resultOf (read m p line) = block (readBlock m p line room)
 resultOf (compare m p line) = compared (readBlock m p line room) (length (differingBits row1 line)) (sameFraming (framingOf m p row1) (framingOf m p line))
-resultOf (write m content) = frameResult m content (frames.writeFrame m content room)
+resultOf (write m content) = frameResult m (frames.writeFrame m content room)
 resultOf (receive n c bs) = received (verdictsFrom n c bs)
 
 -- ---- the table

@@ -1,14 +1,17 @@
 -- The owner's third property, sentence by sentence, over lines of methods 1 to 6. Assumes nothing.
 use mathlib.Core.Path.{_≡_}
 use Prim.Native.Nat.{ℕ}
+use mathlib.Core.Bool.{Bool}
 use mathlib.Core.List.{List}
-use Rattle.cyclic.specs.Check.{method5, method6}
+use Rattle.cyclic.specs.Check.{Parameters, method5, method6}
+use Rattle.block.specs.declared.Method.{Method}
 use Rattle.block.specs.declared.Method.the-variants as method
 use Rattle.block.specs.declared.Parity.{Parity}
 use Rattle.block.specs.Read.{readBlock}
-use Rattle.guarantees.specs.Lines.{Lines, DifferWhereChecked, EqualWhereChecked, AtLeast, NoBurst, NeverOdd, AcceptedWhereApart}
-use Rattle.guarantees.specs.Blocks.{blocks}
-use Rattle.guarantees.specs.Frames.{frames}
+use Rattle.frame.specs.Read.{readBits, readFrame}
+use Rattle.guarantees.specs.Lines.{Lines, AcceptedHasFraming, DifferWhereChecked, EqualWhereChecked, AtLeast, NoBurst, NeverOdd, AcceptedWhereApart}
+use Rattle.guarantees.specs.Blocks as block-lines
+use Rattle.guarantees.specs.Frames as frame-lines
 
 -- methods 1 to 6; a block call is also given the parity setting, which methods 3 and 4 ignore
 pub data AnyMethod : Type 0 where
@@ -16,12 +19,12 @@ pub data AnyMethod : Type 0 where
   method-5 method-6 : AnyMethod
 
 abbrev pub linesOf : AnyMethod → Lines
-linesOf (method-1 p) = blocks method.Parity p
-linesOf (method-2 p) = blocks method.Matrix p
-linesOf (method-3 p) = blocks method.Cyclic p
-linesOf (method-4 p) = blocks method.CyclicAlternative p
-linesOf method-5 = frames method5
-linesOf method-6 = frames method6
+linesOf (method-1 p) = block-lines.blocks method.Parity p
+linesOf (method-2 p) = block-lines.blocks method.Matrix p
+linesOf (method-3 p) = block-lines.blocks method.Cyclic p
+linesOf (method-4 p) = block-lines.blocks method.CyclicAlternative p
+linesOf method-5 = frame-lines.frames method5
+linesOf method-6 = frame-lines.frames method6
 
 -- a 16-bit check
 abbrev pub Has16Bits : AnyMethod → Type 0
@@ -35,7 +38,12 @@ Has16Bits method-6 = ⊥
 -- "Take every two unequal lines A and B, both accepted, with one method, one length, one framing and, in methods 1 and 2, one
 -- parity setting."
 pub record ThirdProperty : Type 0 where
-  -- with one framing each bit in which they differ is a checked bit
+  -- accepted: the number is none of 11 to 18, or 31 to 37, and the line has a framing
+  pub accepted-blocks : (m : Method) (p : Parity) (line : List ℕ) (room : ℕ) → block-lines.AcceptsByNumber (readBlock m p line room)
+  pub accepted-frames : (m : Parameters) (frame : List Bool) (room : ℕ) → frame-lines.AcceptsByNumber (readBits m frame room)
+  pub accepted-lent : (m : Parameters) (told : ℕ) (lent : List ℕ) (room : ℕ) → frame-lines.AcceptsByNumber (readFrame m told lent room)
+  pub accepted-has-framing : (m : AnyMethod) → AcceptedHasFraming (linesOf m)
+  -- with one framing each bit in which two lines differ, taken or not, is a checked bit
   pub differ-where-checked : (m : AnyMethod) → DifferWhereChecked (linesOf m)
   pub equal-where-checked : (m : AnyMethod) → EqualWhereChecked (linesOf m)
   -- "A and B differ in at least 2 bits under parity, 4 under matrix and 3 under the 32-bit frame."

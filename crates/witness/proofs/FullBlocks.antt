@@ -24,7 +24,7 @@ use Rattle.block.specs.Read.{found, framed, framingOf}
 use Rattle.guarantees.specs.Lines.{SameFraming, TwoAccepted, distance, differingChecked}
 use Rattle.guarantees.specs.Blocks.{Accepted, checkedBits, blocks}
 use Rattle.guarantees.specs.Third.{method-3}
-use Rattle.guarantees.proofs.Blocks.Framing.{CheckRight, accepted-right}
+use Rattle.guarantees.proofs.Blocks.Framing.{CheckRight, Found, has-framing, accepted-right}
 use Rattle.guarantees.proofs.Third.{third-property}
 
 -- STX, 4,095 bytes of text, ETX and the check; the first byte of the text and the first of the check are open
@@ -60,16 +60,24 @@ right-first : CheckRight method.Cyclic Even marks first
 unfolding lowBits bitsOf checkOf checkBits formula method3 divide remainder ccitt16
 right-first = refl
 
+abbrev found-first : Found method.Cyclic Even first
+found-first = record { marks = marks; field = Text; end = Etx; is-found = framed-first }
+
 pub accepted-first : Accepted method.Cyclic Even first
-accepted-first =
-    accepted-right method.Cyclic Even first (record { marks = marks; field = Text; end = Etx; is-found = framed-first }) .1 right-first
+accepted-first = accepted-right method.Cyclic Even first found-first .1 right-first
 
 one-framing : framingOf method.Cyclic Even first ≡ framingOf method.Cyclic Even second
 unfolding signOf character framed framingOf
 one-framing = refl
 
 pub same-framing : SameFraming (blocks method.Cyclic Even) first second
-same-framing = record { lines = (bytes-full 0x41 0xA3 (omega arith) (omega arith), bytes-full 0x43 0xA2 (omega arith) (omega arith)); accepted = accepted-first; one-length = refl; one-framing = one-framing }
+same-framing =
+    record {
+      lines = (bytes-full 0x41 0xA3 (omega arith) (omega arith), bytes-full 0x43 0xA2 (omega arith) (omega arith));
+      one-length = refl;
+      has-framing = has-framing method.Cyclic Even first found-first;
+      one-framing = one-framing;
+    }
 
 -- the two checked bits in which they differ
 pub differ-apart : differingChecked (blocks method.Cyclic Even) first second ≡ 1 ∷ 32768 ∷ []
@@ -80,7 +88,8 @@ pub full-pair : TwoAccepted (blocks method.Cyclic Even) first second
 full-pair =
     record {
       same-framing = same-framing;
-      accepted = third-property .accepted-where-apart (method-3 Even) tt first second same-framing 1 32768 differ-apart .1 refl;
+      accepted =
+          (accepted-first, third-property .accepted-where-apart (method-3 Even) tt first second accepted-first same-framing 1 32768 differ-apart .1 refl);
       unequal = λ e. omega (arith, ap (λ (l : List ℕ). getD l 1 0) e);
     }
 

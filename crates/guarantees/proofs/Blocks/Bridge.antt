@@ -1,18 +1,19 @@
 -- The bridge of blocks: with one framing, equal bytes are left out at equal places, so one mask selects the checked bits of both
 -- lines. Assumes nothing.
 use mathlib.Core.Path.{_≡_, refl, sym, ap, ap₂, subst, _∙_}
-use Prim.Native.Nat.{ℕ, _+_, _≤_}
+use Prim.Native.Nat.{ℕ, _+_, _*_, _≤_}
 use native.Mathlib.Omega.{arith}
 use mathlib.Core.Bool.{Bool, true, false, not}
 use mathlib.Core.List.{List, [], _∷_, _++_, head-eq-of-cons-eq, tail-eq-of-cons-eq}
-use lib.ListN.{length, replicate}
+use lib.ListN.{length, replicate, length-append, length-drop}
 use Rattle.bits.specs.Bytes.{lowBits, bitsOf}
 use Rattle.bits.specs.Differences.{consIf}
-use Rattle.bits.proofs.Bytes.{length-lowBits, bitsOf-injective}
+use Rattle.bits.proofs.Bytes.{length-lowBits, length-bitsOf, bitsOf-injective}
 use Rattle.block.specs.declared.Method.{Method}
 use Rattle.block.specs.declared.Parity.{Parity}
 use Rattle.block.specs.declared.Mark.{Mark}
 use Rattle.block.specs.Marks.{isCounted, counted, checkBytes, LeftOutByte, leftOutIf, leftOut}
+use Rattle.block.specs.Check.{checkLength}
 use Rattle.block.proofs.Passed.{Passed, passed}
 use Rattle.guarantees.specs.Blocks.{checkedIn, checkedBits, checkedBytes, eachEight, isCheckedIn, isChecked, blocks}
 use Rattle.guarantees.proofs.Lines.Masks.{select, select-append, select-inside, select-outside, Agree, nothing, agree-append, agree-inside, agree-outside, Bridge}
@@ -130,6 +131,13 @@ module _ (m : Method) (p : Parity) (line : List ℕ) (r : Found m p line) where
 
   pub all-passed : Passed m p line (r .marks) (r .field) (r .end)
   all-passed = passed m p line (r .marks) (r .field) (r .end) (r .is-found)
+
+  pub checked-length : length (checkedBits m p line) ≡ 8 * (length (counted (r .marks) line) + checkLength m)
+  checked-length =
+      let c = counted (r .marks) line in
+      let k = checkBytes (r .marks) line in
+      let n : length k ≡ checkLength m = length-drop (length (r .marks)) line ∙ omega (arith, all-passed .closes) in
+      ap length checked-bits ∙ length-bitsOf (c ++ k) ∙ ap (λ z. 8 * z) (length-append c k ∙ ap (λ z. length c + z) n)
 
   selected : select (isChecked m p line) (bitsOf line) ≡ checkedBits m p line
   selected = ap (λ z. select z (bitsOf line)) is-checked ∙ select-checked (r .marks) line ∙ sym checked-bits

@@ -1,10 +1,11 @@
--- Blocks of methods 3 and 4: of two lines with one framing, the second is accepted where its check is right. Assumes nothing.
+-- Blocks of methods 3 and 4: of two lines with one framing, each is accepted where its check is right. Assumes nothing.
 use mathlib.Core.Path.{_≡_, refl, sym, ap, _∙_}
+use mathlib.Core.Logic.{_↔_}
 use Prim.Native.Nat.{ℕ, _+_}
 use native.Mathlib.Omega.{arith}
 use mathlib.Core.Bool.{false, true≢false}
 use mathlib.Core.List.{List, _++_}
-use lib.ListN.{length, length-append, length-drop}
+use lib.ListN.{length, length-drop}
 use Rattle.bits.specs.Bytes.{bitsOf}
 use Rattle.bits.proofs.Bytes.{length-bitsOf, bitsOf-append}
 use Rattle.cyclic.specs.Check.{Parameters, checkBits, method3, method4}
@@ -15,11 +16,11 @@ use Rattle.block.specs.Characters.{isSeven}
 use Rattle.block.specs.Marks.{counted, checkBytes}
 use Rattle.block.specs.Check.{checkOf, checkLength}
 use Rattle.block.specs.Read.{Framed, found, unframed, framed, askCheck, readBlock}
-use Rattle.guarantees.specs.Blocks.{checkedBits, blocks}
+use Rattle.guarantees.specs.Blocks.{Accepted, checkedBits, blocks}
 use Rattle.guarantees.proofs.Lines.Masks.{length-checked}
 use Rattle.guarantees.proofs.Lines.Cyclic.{CyclicPairs}
 use Rattle.guarantees.proofs.Blocks.Framing.{Found, one-framing, accepted-right}
-use Rattle.guarantees.proofs.Blocks.Bridge.{checked-bits, all-passed, block-bridge}
+use Rattle.guarantees.proofs.Blocks.Bridge.{checked-bits, all-passed, checked-length, block-bridge}
 
 -- ---- one law over both methods
 
@@ -29,33 +30,37 @@ module _ (m : Method) (k : Parameters) (rule : (p : Parity) (bs : List ℕ) → 
     whole : checkedBits m p line ≡ bitsOf (counted (r .marks) line) ++ bitsOf (checkBytes (r .marks) line)
     whole = checked-bits m p line r ∙ bitsOf-append (counted (r .marks) line) (checkBytes (r .marks) line)
 
+    right : Accepted m p line ↔ (bitsOf (checkBytes (r .marks) line) ≡ checkBits k (bitsOf (counted (r .marks) line)))
+    right =
+        let a = accepted-right m p line r in
+        let q = rule p (counted (r .marks) line) in
+        (λ h. a .0 h ∙ q, λ e. a .1 (e ∙ sym q))
+
     check-length : length (bitsOf (checkBytes (r .marks) line)) ≡ 16
     check-length =
         length-bitsOf (checkBytes (r .marks) line)
         ∙ omega (arith, length-drop (length (r .marks)) line, all-passed m p line r .closes)
 
-    whole-length : length (checkedBits m p line) ≡ length (bitsOf (counted (r .marks) line)) + 16
-    whole-length = ap length whole ∙ simp (length-append, check-length) refl
+    content-length : length (checkedBits m p line) ≡ length (bitsOf (counted (r .marks) line)) + 16
+    content-length = omega (arith, checked-length m p line r, length-bitsOf (counted (r .marks) line))
 
   cyclic-pairs : (p : Parity) → CyclicPairs k 16 (blocks m p)
   cyclic-pairs p A B s =
       let o = one-framing m p A B s in
       let ca = counted (o .a .marks) A in
       let cb = counted (o .b .marks) B in
-      let ra = accepted-right m p A (o .a) in
-      let rb = accepted-right m p B (o .b) in
       record {
         content-a = bitsOf ca;
         check-a = bitsOf (checkBytes (o .a .marks) A);
         whole-a = whole p A (o .a);
-        right-a = ra .0 (s .accepted) ∙ rule p ca;
+        right-a = right p A (o .a);
         content-b = bitsOf cb;
         check-b = bitsOf (checkBytes (o .b .marks) B);
         whole-b = whole p B (o .b);
-        right-b = (λ b. rb .0 b ∙ rule p cb, λ e. rb .1 (e ∙ sym (rule p cb)));
-        one-length = omega (arith, whole-length p A (o .a), whole-length p B (o .b), length-checked (blocks m p) (block-bridge m p) A B s);
+        right-b = right p B (o .b);
+        one-length = omega (arith, content-length p A (o .a), content-length p B (o .b), length-checked (blocks m p) (block-bridge m p) A B s);
         check-length = check-length p B (o .b);
-        within = omega (arith, whole-length p A (o .a), length-bitsOf ca, all-passed m p A (o .a) .few, limit);
+        within = omega (arith, content-length p A (o .a), length-bitsOf ca, all-passed m p A (o .a) .few, limit);
       }
 
 pub cyclic-pairs-3 : (p : Parity) → CyclicPairs method3 16 (blocks method.Cyclic p)

@@ -137,7 +137,7 @@ module _ (p : Parity) (A B : List ℕ) (t : TwoAccepted (blocks method.Matrix p)
   pairs = equal-parities p x y size (checked-right p A (o .a)) (checked-right p B (o .b))
 
   sums : columnSums x ≡ columnSums y
-  sums = checked-zero p A (o .a) (t .same-framing .accepted) ∙ sym (checked-zero p B (o .b) (t .accepted))
+  sums = checked-zero p A (o .a) (t .accepted .0) ∙ sym (checked-zero p B (o .b) (t .accepted .1))
 
   unequal : bitsOf x ≡ bitsOf y → ⊥
   unequal e =

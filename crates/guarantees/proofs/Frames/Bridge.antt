@@ -17,7 +17,7 @@ use Rattle.frame.specs.Read.{between}
 use Rattle.guarantees.specs.Frames.{checkedIn, checkedBits, isCheckedIn, isChecked, frames}
 use Rattle.guarantees.proofs.Lines.Masks.{Agree, nothing, inside, outside, select, select-append, select-outside, agree-append, agree-outside, Bridge}
 use Rattle.guarantees.proofs.Frames.Unstuffing.{missing-clean, ahead-clean, unstuff-selects}
-use Rattle.guarantees.proofs.Frames.Framing.{Passed, passed, sound, one-framing}
+use Rattle.guarantees.proofs.Frames.Framing.{Passed, passed, one-framing}
 
 -- ---- the inserted zeros
 
@@ -93,22 +93,21 @@ module _ (m : Parameters) (A B s t : List Bool) (a : Passed m A s) (b : Passed m
 pub frame-bridge : (m : Parameters) → Bridge (frames m)
 unfolding checkedBits isChecked
 frame-bridge m A B p =
-    let c = sound m A (p .accepted) in
-    let s = c .checked in
-    let o = one-framing m A B s (c .has-framing) (p .one-framing) in
-    let t = o .checked in
-    let a = passed m s A (c .has-framing) in
-    let b = passed m t B (o .has-framing) in
+    let o = one-framing m A B p in
+    let s = o .a .checked in
+    let t = o .b .checked in
+    let a = passed m s A (o .a .is-found) in
+    let b = passed m t B (o .b .is-found) in
     let one = p .one-length in
     let z : behindFive 0 (between A) ≡ behindFive 0 (between B) =
     setFrom-injective 8 (behindFive 0 (between A)) (behindFive 0 (between B))
     (length-behindFive 0 (between A) ∙ length-between m A s a ∙ omega arith ∙ sym (length-between m B t b) ∙ sym (length-behindFive 0 (between B))) (o .zeros-at) in
-    let mask : isChecked m A ≡ zeros 8 ++ (invert (behindFive 0 (between A)) ++ zeros 8) = ap (isCheckedIn A) (c .has-framing) in
+    let mask : isChecked m A ≡ zeros 8 ++ (invert (behindFive 0 (between A)) ++ zeros 8) = ap (isCheckedIn A) (o .a .is-found) in
     record {
       agree = rw mask (agree m A B s t a b one z);
-      first = ap (λ ms. select ms A) mask ∙ selects m A s a ∙ sym (ap checkedIn (c .has-framing));
+      first = ap (λ ms. select ms A) mask ∙ selects m A s a ∙ sym (ap checkedIn (o .a .is-found));
       second =
           ap (λ ms. select ms B) (mask ∙ ap (λ x. zeros 8 ++ (invert x ++ zeros 8)) z) ∙ selects m B t b
-          ∙ sym (ap checkedIn (o .has-framing));
+          ∙ sym (ap checkedIn (o .b .is-found));
       injective = λ e. e;
     }

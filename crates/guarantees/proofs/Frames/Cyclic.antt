@@ -1,4 +1,4 @@
--- Accepted frames carry their check behind their content, and a frame of the same framing is accepted where its check is right.
+-- Frames carry their check behind their content: of two with one framing, each is accepted where its check is right.
 -- Assumes nothing.
 use mathlib.Core.Path.{_≡_, sym, ap, _∙_}
 use Prim.Native.Nat.{ℕ, _-_}
@@ -12,31 +12,30 @@ use Rattle.frame.specs.Read.{contentOf, checkIn}
 use Rattle.guarantees.specs.Frames.{checkedIn, checkedBits, frames}
 use Rattle.guarantees.proofs.Lines.Masks.{length-checked}
 use Rattle.guarantees.proofs.Lines.Cyclic.{CyclicPairs}
-use Rattle.guarantees.proofs.Frames.Framing.{passed, sound, accepted, right-of, one-framing}
+use Rattle.guarantees.proofs.Frames.Framing.{passed, accepted-right, one-framing}
 use Rattle.guarantees.proofs.Frames.Bridge.{frame-bridge}
 
 pub cyclic-frames : (m : Parameters) (w : ℕ) → OfWidth w m → CyclicPairs m w (frames m)
 unfolding checkedBits
 cyclic-frames m w wide A B p =
-    let c = sound m A (p .accepted) in
-    let s = c .checked in
-    let o = one-framing m A B s (c .has-framing) (p .one-framing) in
-    let t = o .checked in
-    let a = passed m s A (c .has-framing) in
-    let b = passed m t B (o .has-framing) in
-    let ea : checkedBits m A ≡ s = ap checkedIn (c .has-framing) in
-    let eb : checkedBits m B ≡ t = ap checkedIn (o .has-framing) in
+    let o = one-framing m A B p in
+    let s = o .a .checked in
+    let t = o .b .checked in
+    let a = passed m s A (o .a .is-found) in
+    let b = passed m t B (o .b .is-found) in
+    let ea : checkedBits m A ≡ s = ap checkedIn (o .a .is-found) in
+    let eb : checkedBits m B ≡ t = ap checkedIn (o .b .is-found) in
     let n : length s ≡ length t = sym (ap length ea) ∙ length-checked (frames m) (frame-bridge m) A B p ∙ ap length eb in
     let k : length (m .generator) ≡ w = wide .generator .width in
     record {
       content-a = contentOf m s;
       check-a = checkIn m s;
       whole-a = ea ∙ sym (take-append-drop (length s - width m) s);
-      right-a = c .check-right;
+      right-a = accepted-right m A (o .a);
       content-b = contentOf m t;
       check-b = checkIn m t;
       whole-b = eb ∙ sym (take-append-drop (length t - width m) t);
-      right-b = (λ acc. right-of m B (o .has-framing) acc, λ r. accepted m B (o .has-framing) r);
+      right-b = accepted-right m B (o .b);
       one-length =
           length-take-le (length s - width m) s (omega arith) ∙ omega (arith, n) ∙ sym (length-take-le (length t - width m) t (omega arith));
       check-length = length-drop (length t - width m) t ∙ omega (arith, b .content);

@@ -1,8 +1,9 @@
--- What a frame has passed where it has a framing or is accepted: questions 32 to 37, read off the rule. Assumes nothing.
+-- A frame with a framing is one that passed 32 to 36; it is accepted where 37 finds its check right. Assumes nothing.
 use mathlib.Core.Path.{_≡_, refl, sym, ap, _∙_}
+use mathlib.Core.Logic.{_↔_}
 use Prim.Native.Nat.{ℕ, _+_, _-_, _*_, _%_, _≤_}
 use native.Mathlib.Omega.{arith}
-use mathlib.Core.Bool.{Bool, true, false, cond}
+use mathlib.Core.Bool.{Bool, true, false}
 use mathlib.Core.List.{List}
 use lib.Dec.{leb, eqb}
 use lib.ListN.{length, take, drop}
@@ -14,8 +15,10 @@ use Rattle.bits.proofs.Strings.{same-sound, same-self}
 use Rattle.cyclic.specs.Check.{Parameters, checkBits}
 use Rattle.frame.specs.Stuffing.{Unstuffed, clean, missing, unstuff, behindFive}
 use Rattle.frame.specs.Frame.{width, flag}
-use Rattle.frame.specs.Read.{Framed, found, unframed, ask, askLength, askZeros, between, framed, framing, framingBy, framingOf, contentOf, checkIn, ReadAnswer, taken, refusal, askCheck, readBits}
-use Rattle.guarantees.specs.Frames.{numberOf, Accepted}
+use Rattle.frame.specs.Read.{Framed, found, unframed, ask, askLength, askZeros, between, framed, none, framing, framingBy, framingOf, contentOf, checkIn, askCheck, readBits}
+use Rattle.guarantees.specs.Lines.{SameFraming}
+use Rattle.guarantees.specs.Frames.{Accepts, Accepted, frames}
+use Rattle.guarantees.proofs.Frames.Numbers.{FramedNumbered, framed-numbered, answer}
 
 -- ---- 32 to 36
 
@@ -69,98 +72,82 @@ module _ (m : Parameters) (s : List Bool) where
         within = z .3;
       }
 
--- ---- a refusal of these questions has one of the numbers 32 to 36
-
-abbrev Numbered : Framed → Type 0
-Numbered (found s) = Unit
-Numbered (unframed n v) = (31 ≤ n) × (n ≤ 37)
-
-ask-numbered : (holds : Bool) (n v : ℕ) (next : Framed) → 31 ≤ n → n ≤ 37 → Numbered next → Numbered (ask holds n v next)
-ask-numbered true n v next a b h = h
-ask-numbered false n v next a b h = (a, b)
-
-zeros-numbered : (m : Parameters) (u : Unstuffed) → Numbered (askZeros m u)
-zeros-numbered m (missing p) = omega arith
-zeros-numbered m (clean s) =
-    ask-numbered (eqb (length s % 8) 0) 34 0 _ (omega arith) (omega arith)
-    (ask-numbered (leb (8 + width m) (length s)) 35 0 _ (omega arith) (omega arith)
-    (ask-numbered (leb (length s) (8 * m .limit + width m)) 36 0 (found s) (omega arith) (omega arith) tt))
-
-framed-numbered : (m : Parameters) (frame : List Bool) → Numbered (framed m frame)
-unfolding framed
-framed-numbered m frame =
-    ask-numbered (leb 16 (length frame)) 32 0 _ (omega arith) (omega arith)
-    (ask-numbered (same (take 8 frame) flag) 32 0 _ (omega arith) (omega arith)
-    (ask-numbered (same (drop (length frame - 8) frame) flag) 32 0 _ (omega arith) (omega arith)
-    (zeros-numbered m (unstuff 0 8 (between frame)))))
-
--- ---- accepted: a framing, and the check right
+-- ---- a frame with a framing; accepted where 37 finds its check right
 
 abbrev pub CheckRight : Parameters → List Bool → Type 0
 CheckRight m s = checkIn m s ≡ checkBits m (contentOf m s)
 
-pub record Sound (m : Parameters) (frame : List Bool) : Type 0 where
+-- content and check
+pub record Found (m : Parameters) (frame : List Bool) : Type 0 where
   pub checked : List Bool
-  pub has-framing : framed m frame ≡ found checked
-  pub check-right : CheckRight m checked
+  pub is-found : framed m frame ≡ found checked
 
 module _ (m : Parameters) (frame : List Bool) where
-  number-by : (w : Framed) (room : ℕ) → framed m frame ≡ w → numberOf (readBits m frame room) ≡ numberOf (askCheck m room w)
+  answered : (w : Framed) (room : ℕ) → framed m frame ≡ w → readBits m frame room ≡ askCheck m room w
   unfolding readBits
-  number-by w room e = ap (λ x. numberOf (askCheck m room x)) e
+  answered w room e = ap (askCheck m room) e
 
-  abbrev right : List Bool → Bool
-  right s = same (checkIn m s) (checkBits m (contentOf m s))
-
-  abbrev answerOf : List Bool → ℕ → Bool → ReadAnswer
-  answerOf s room t =
-      cond t
-      (cond (leb (bytesFor (length (contentOf m s))) room) (taken (contentOf m s)) (refusal 38 (bytesFor (length (contentOf m s)))))
-      (refusal 37 0)
-
-  pub sound : Accepted m frame → Sound m frame
-  sound acc = go (framed m frame) refl (framed-numbered m frame)
+  pub found-framing : (framingOf m frame ≡ none → ⊥) → Found m frame
+  unfolding framingOf
+  found-framing h = go (framed m frame) refl
     where
-      test : (s : List Bool) → framed m frame ≡ found s → (t : Bool) → right s ≡ t → t ≡ true
-      test s e true q = refl
-      test s e false q =
-          let n : numberOf (readBits m frame 0) ≡ 37 = number-by (found s) 0 e ∙ ap (λ t. numberOf (answerOf s 0 t)) q in
-          absurd (acc 0 (omega arith) (omega arith))
+      go : (w : Framed) → framed m frame ≡ w → Found m frame
+      go (found s) e = record { checked = s; is-found = e }
+      go (unframed n v) e = absurd (h (ap (framingBy frame) e))
 
-      go : (w : Framed) → framed m frame ≡ w → Numbered w → Sound m frame
-      go (unframed n v) e l =
-          let q = number-by (unframed n v) 0 e in
-          absurd (acc 0 (omega arith) (omega arith))
-      go (found s) e l = record { checked = s; has-framing = e; check-right = same-true _ _ (test s e (right s) refl) }
+  pub has-framing : Found m frame → framingOf m frame ≡ none → ⊥
+  unfolding framingOf
+  has-framing r h =
+      let q : framing (setFrom 8 (behindFive 0 (between frame))) ≡ none = sym (ap (framingBy frame) (r .is-found)) ∙ h in
+      let z : _≡_ {A = ℕ} 0 1 = cc in
+      omega arith
 
-  within-room : (s : List Bool) (t : Bool) (k : ℕ) → 31 ≤ numberOf (cond t (taken s) (refusal 38 k)) → numberOf (cond t (taken s) (refusal 38 k)) ≤ 37 → ⊥
-  within-room s true k h l = omega arith
-  within-room s false k h l = omega arith
+  pub accepted-found : Accepted m frame → Found m frame
+  accepted-found acc = go (framed m frame) refl (framed-numbered m frame)
+    where
+      go : (w : Framed) → framed m frame ≡ w → FramedNumbered w → Found m frame
+      go (found s) e h = record { checked = s; is-found = e }
+      go (unframed n v) e h = let q : n ≡ 38 = rw (answered (unframed n v) 0 e) at (acc 0) in absurd (omega arith)
 
-  pub accepted : {s : List Bool} → framed m frame ≡ found s → CheckRight m s → Accepted m frame
-  accepted {s} e c room h k =
-      let t : right s ≡ true = ap (same (checkIn m s)) (sym c) ∙ same-self (checkIn m s) in
-      let n : numberOf (readBits m frame room) ≡ numberOf (answerOf s room true) = number-by (found s) room e ∙ ap (λ t. numberOf (answerOf s room t)) t in
-      within-room (contentOf m s) (leb (bytesFor (length (contentOf m s))) room) (bytesFor (length (contentOf m s))) (rw n at h) (rw n at k)
+  module _ (r : Found m frame) where
+    abbrev pub content : List Bool
+    content = contentOf m (r .checked)
 
-  pub right-of : {s : List Bool} → framed m frame ≡ found s → Accepted m frame → CheckRight m s
-  right-of {s} e acc =
-      let d = sound acc in
-      let z : found (d .checked) ≡ found s = sym (d .has-framing) ∙ e in
-      let k : d .checked ≡ s = cc in
-      rw (← k) (d .check-right)
+    abbrev received : List Bool
+    received = checkIn m (r .checked)
 
--- ---- a frame of the framing of another
+    abbrev fits : ℕ → Bool
+    fits room = leb (bytesFor (length content)) room
 
-pub record OneFraming (m : Parameters) (A B s : List Bool) : Type 0 where
-  pub checked : List Bool
-  pub has-framing : framed m B ≡ found checked
+    answer-to : (room : ℕ) {t : Bool} → same received (checkBits m content) ≡ t → readBits m frame room ≡ answer t (fits room) content
+    answer-to room e = answered (found (r .checked)) room (r .is-found) ∙ ap (λ t. answer t (fits room) content) e
+
+    pub right-answer : CheckRight m (r .checked) → (room : ℕ) → readBits m frame room ≡ answer true (fits room) content
+    right-answer e room = answer-to room (ap (same received) (sym e) ∙ same-self received)
+
+    pub accepted-right : Accepted m frame ↔ CheckRight m (r .checked)
+    accepted-right = (λ acc. go acc (same received (checkBits m content)) refl, λ e room. rw (right-answer e room) (right (fits room)))
+      where
+        go : Accepted m frame → (t : Bool) → same received (checkBits m content) ≡ t → CheckRight m (r .checked)
+        go acc true e = same-true received (checkBits m content) e
+        go acc false e = let q : _≡_ {A = ℕ} 37 38 = rw (answer-to 0 e) at (acc 0) in absurd (omega arith)
+
+        right : (t : Bool) → Accepts (answer true t content)
+        right true = tt
+        right false = refl
+
+-- ---- two frames of one framing
+
+pub record OneFraming (m : Parameters) (A B : List Bool) : Type 0 where
+  pub a : Found m A
+  pub b : Found m B
   pub zeros-at : setFrom 8 (behindFive 0 (between A)) ≡ setFrom 8 (behindFive 0 (between B))
 
-pub one-framing : (m : Parameters) (A B s : List Bool) → framed m A ≡ found s → framingOf m A ≡ framingOf m B → OneFraming m A B s
+pub one-framing : (m : Parameters) (A B : List Bool) → SameFraming (frames m) A B → OneFraming m A B
 unfolding framingOf
-one-framing m A B s e f = go (framed m B) refl (sym (ap (λ w. framingBy A w) e) ∙ f)
-  where
-    go : (w : Framed) → framed m B ≡ w → framing (setFrom 8 (behindFive 0 (between A))) ≡ framingBy B w → OneFraming m A B s
-    go (unframed n v) q h = let z : _≡_ {A = ℕ} 0 1 = cc in absurd (omega arith)
-    go (found t) q h = record { checked = t; has-framing = q; zeros-at = cc }
+one-framing m A B s =
+    let a = found-framing m A (s .has-framing) in
+    let b = found-framing m B (λ e. s .has-framing (s .one-framing ∙ e)) in
+    let q : framing (setFrom 8 (behindFive 0 (between A))) ≡ framing (setFrom 8 (behindFive 0 (between B))) =
+    sym (ap (framingBy A) (a .is-found)) ∙ s .one-framing ∙ ap (framingBy B) (b .is-found) in
+    record { a = a; b = b; zeros-at = cc }

@@ -2,7 +2,7 @@
 use mathlib.Core.Path.{_≡_, refl, sym, ap, ap₂, _∙_}
 use Prim.Native.Nat.{ℕ, _+_, _-_, _*_, _%_, _≤_}
 use native.Mathlib.Omega.{arith}
-use mathlib.Core.Bool.{Bool, true, false, cond}
+use mathlib.Core.Bool.{Bool, true, false}
 use mathlib.Core.List.{List, _++_, append-assoc, append-nil}
 use lib.Dec.{leb}
 use lib.ListN.{length, take, drop, length-append, take-append-drop}
@@ -10,7 +10,7 @@ use lib.Seq.{take-at, drop-at, take-append-le, length-take-le}
 use borrow.Author.Tests.{leb-true, le-leb, eq-eqb}
 use Rattle.bits.specs.Strings.{same, zeros}
 use Rattle.bits.specs.Bytes.{bitsOf, bytesFor, pack}
-use Rattle.bits.proofs.Strings.{same-self, same-sound}
+use Rattle.bits.proofs.Strings.{same-self}
 use Rattle.bits.proofs.Bytes.{length-bitsOf, bitsOf-append}
 use Rattle.bits.proofs.Packing.{length-pack, bitsOf-pack, take-bitsOf-pack}
 use Rattle.cyclic.specs.Check.{Parameters, checkBits, checkedBits}
@@ -19,10 +19,11 @@ use Rattle.cyclic.proofs.Checks.{length-check}
 use Rattle.frame.specs.Stuffing.{clean, stuff, unstuff}
 use Rattle.frame.specs.Frame.{width, flag, enclose, frameOf}
 use Rattle.frame.specs.Write as writing
-use Rattle.frame.specs.Read.{Framed, found, unframed, ask, between, framed, contentOf, checkIn, taken, refusal, askCheck, readBits, readFrame}
+use Rattle.frame.specs.Read.{found, between, framed, contentOf, checkIn, taken, readBits}
 use Rattle.guarantees.specs.Second.{FrameReadsBack, FrameWritesBack}
 use Rattle.guarantees.proofs.Frames.Unstuffing.{unstuff-stuff, stuff-unstuff}
 use Rattle.guarantees.proofs.Frames.Framing.{passed, CheckRight}
+use Rattle.guarantees.proofs.Frames.Taken.{taken-passed, right-taken, read-lent}
 use Rattle.guarantees.proofs.Frames.Bridge.{length-flag, whole}
 
 -- ---- the questions of writing, passed
@@ -110,19 +111,15 @@ module _ (m : Parameters) (w : ℕ) (wide : OfWidth w m) (eights : w % 8 ≡ 0) 
     check-back : checkIn m s ≡ checkBits m c
     check-back = drop-at c (checkBits m c) (length s - width m) (omega (arith, length-s))
 
-    right : same (checkIn m s) (checkBits m (contentOf m s)) ≡ true
-    right = ap₂ (λ x y. same x (checkBits m y)) check-back content-back ∙ same-self (checkBits m c)
+    right : CheckRight m s
+    right = check-back ∙ ap (checkBits m) (sym content-back)
 
-    taken-back : (n room : ℕ) → length c ≡ 8 * n → n ≤ room → askCheck m room (found s) ≡ taken c
-    taken-back n room e h =
-        let fits : bytesFor (length (contentOf m s)) ≤ room = omega (arith, ap length content-back) in
-        let d = contentOf m s in
-        ap (λ t. cond t (cond (leb (bytesFor (length d)) room) (taken d) (refusal 38 (bytesFor (length d)))) (refusal 37 0)) right
-        ∙ ap (λ t. cond t (taken d) (refusal 38 (bytesFor (length d)))) (le-leb (bytesFor (length d)) room fits)
-        ∙ ap taken content-back
+    taken-back : (frame : List Bool) → framed m frame ≡ found s → (n room : ℕ) → length c ≡ 8 * n → n ≤ room → readBits m frame room ≡ taken c
+    taken-back frame q n room e h =
+        right-taken m frame (record { checked = s; is-found = q }) right room (omega (arith, ap length content-back)) ∙ ap taken content-back
 
   pub frame-reads-back : FrameReadsBack m
-  unfolding readFrame readBits frameOf checkedBits
+  unfolding frameOf checkedBits
   frame-reads-back content frame room space behind e h =
       let f = was-written m content frame room e in
       let c = bitsOf content in
@@ -132,59 +129,36 @@ module _ (m : Parameters) (w : ℕ) (wide : OfWidth w m) (eights : w % 8 ≡ 0) 
       ap (take (length frame)) (bitsOf-append (pack frame) behind)
       ∙ take-append-le (length frame) (bitsOf (pack frame)) (bitsOf behind) (omega (arith, length-bitsOf (pack frame), length-pack frame))
       ∙ take-bitsOf-pack frame in
-      let lent : length frame ≤ 8 * length (pack frame ++ behind) = omega (arith, length-append (pack frame) behind, length-pack frame) in
       let found-it : framed m frame ≡ found (c ++ checkBits m c) =
       ap (framed m) (f .bits)
       ∙ framed-enclosed (c ++ checkBits m c) m (omega (arith, length-s c, n)) (omega (arith, length-s c, n, f .some)) (omega (arith, length-s c, n, f .within)) in
-      ap (λ t. cond t (askCheck m space (framed m (take (length frame) (bitsOf (pack frame ++ behind))))) (refusal 31 0)) (le-leb _ _ lent)
-      ∙ ap (λ x. askCheck m space (framed m x)) told
-      ∙ ap (askCheck m space) found-it
-      ∙ taken-back c (length content) space n h
+      read-lent m frame (pack frame ++ behind) space told
+      ∙ taken-back c frame found-it (length content) space n h
 
   -- ---- writing what was read
 
-  module _ (frame content : List Bool) (room : ℕ) (e : readBits m frame room ≡ taken content) where
-    taken-of : (w : Framed) → framed m frame ≡ w → (s : List Bool) × (framed m frame ≡ found s) × CheckRight m s × (contentOf m s ≡ content)
-    unfolding readBits
-    taken-of (unframed n v) q = let z : _≡_ {A = ℕ} 0 1 = cc (ap (askCheck m room) q) in absurd (omega arith)
-    taken-of (found s) q = go (same (checkIn m s) (checkBits m (contentOf m s))) refl (sym (ap (askCheck m room) q) ∙ e)
-      where
-        d : List Bool
-        d = contentOf m s
-
-        fits : (t : Bool) → cond t (taken d) (refusal 38 (bytesFor (length d))) ≡ taken content → d ≡ content
-        fits true h = cc
-        fits false h = let z : _≡_ {A = ℕ} 0 1 = cc in absurd (omega arith)
-
-        go : (t : Bool) → same (checkIn m s) (checkBits m d) ≡ t
-            → cond t (cond (leb (bytesFor (length d)) room) (taken d) (refusal 38 (bytesFor (length d)))) (refusal 37 0) ≡ taken content
-            → (s : List Bool) × (framed m frame ≡ found s) × CheckRight m s × (contentOf m s ≡ content)
-        go true t h = (s, q, same-sound (checkIn m s) (checkBits m d) (rw t tt), fits (leb (bytesFor (length d)) room) h)
-        go false t h = let z : _≡_ {A = ℕ} 0 1 = cc in absurd (omega arith)
-
   pub frame-writes-back : FrameWritesBack m
   unfolding writing.writeFrame frameOf checkedBits enclose
-  frame-writes-back frame content room space e h = go (taken-of frame content room e (framed m frame) refl)
-    where
-      go : (s : List Bool) × (framed m frame ≡ found s) × CheckRight m s × (contentOf m s ≡ content)
-          → writing.writeFrame m (pack content) space ≡ writing.written frame
-      go (s, q, r, c) =
-          let a = passed m s frame q in
-          let k = wide .generator .width in
-          let l : length content ≡ length s - width m = sym (ap length c) ∙ length-take-le (length s - width m) s (omega arith) in
-          let even : length content % 8 ≡ 0 = omega (arith, a .whole-bytes, a .content) in
-          let spare : 8 * bytesFor (length content) - length content ≡ 0 = omega arith in
-          let bits : bitsOf (pack content) ≡ content = bitsOf-pack content ∙ ap (λ n. content ++ zeros n) spare ∙ append-nil content in
-          let joined : content ++ checkBits m content ≡ s =
-          ap₂ _++_ (sym c) (ap (checkBits m) (sym c) ∙ sym r) ∙ take-append-drop (length s - width m) s in
-          let same-frame : frameOf m (bitsOf (pack content)) ≡ frame =
-          ap (frameOf m) bits ∙ ap (λ x. flag ++ (stuff 0 x ++ flag)) joined
-          ∙ ap (λ x. flag ++ (x ++ flag)) (sym (stuff-unstuff 8 (between frame) s (a .zeros-stand))) ∙ sym (whole m frame s a) in
-          let n = length-pack content in
-          let fits : bytesFor (length frame) ≤ space = omega (arith, length-pack frame) in
-          ap (λ t. writing.ask t 21 0 (writing.ask (leb (length (pack content)) (m .limit)) 22 0 (writing.askRoom (frameOf m (bitsOf (pack content))) space)))
-          (le-leb 1 (length (pack content)) (omega (arith, a .content)))
-          ∙ ap (λ t. writing.ask t 22 0 (writing.askRoom (frameOf m (bitsOf (pack content))) space))
-          (le-leb (length (pack content)) (m .limit) (omega (arith, a .within, a .content)))
-          ∙ ap (λ x. writing.askRoom x space) same-frame
-          ∙ ap (λ t. writing.ask t 23 (bytesFor (length frame)) (writing.written frame)) (le-leb (bytesFor (length frame)) space fits)
+  frame-writes-back frame content room space e h =
+      let t = taken-passed m frame room e in
+      let s = t .framing .checked in
+      let a = passed m s frame (t .framing .is-found) in
+      let c = t .is-content in
+      let k = wide .generator .width in
+      let l : length content ≡ length s - width m = sym (ap length c) ∙ length-take-le (length s - width m) s (omega arith) in
+      let even : length content % 8 ≡ 0 = omega (arith, a .whole-bytes, a .content) in
+      let spare : 8 * bytesFor (length content) - length content ≡ 0 = omega arith in
+      let bits : bitsOf (pack content) ≡ content = bitsOf-pack content ∙ ap (λ n. content ++ zeros n) spare ∙ append-nil content in
+      let joined : content ++ checkBits m content ≡ s =
+      ap₂ _++_ (sym c) (ap (checkBits m) (sym c) ∙ sym (t .check-right)) ∙ take-append-drop (length s - width m) s in
+      let same-frame : frameOf m (bitsOf (pack content)) ≡ frame =
+      ap (frameOf m) bits ∙ ap (λ x. flag ++ (stuff 0 x ++ flag)) joined
+      ∙ ap (λ x. flag ++ (x ++ flag)) (sym (stuff-unstuff 8 (between frame) s (a .zeros-stand))) ∙ sym (whole m frame s a) in
+      let n = length-pack content in
+      let fits : bytesFor (length frame) ≤ space = omega (arith, length-pack frame) in
+      ap (λ t. writing.ask t 21 0 (writing.ask (leb (length (pack content)) (m .limit)) 22 0 (writing.askRoom (frameOf m (bitsOf (pack content))) space)))
+      (le-leb 1 (length (pack content)) (omega (arith, a .content)))
+      ∙ ap (λ t. writing.ask t 22 0 (writing.askRoom (frameOf m (bitsOf (pack content))) space))
+      (le-leb (length (pack content)) (m .limit) (omega (arith, a .within, a .content)))
+      ∙ ap (λ x. writing.askRoom x space) same-frame
+      ∙ ap (λ t. writing.ask t 23 (bytesFor (length frame)) (writing.written frame)) (le-leb (bytesFor (length frame)) space fits)

@@ -1,30 +1,27 @@
 -- A line that is taken has a framing and its check; an accepted line is taken wherever the output is long enough. Assumes nothing.
-use mathlib.Core.Path.{_≡_, refl, sym, ap, ap₂, _∙_}
+use mathlib.Core.Path.{_≡_, refl, ap, _∙_}
 use Prim.Native.Nat.{ℕ}
 use native.Mathlib.Omega.{arith}
-use mathlib.Core.Bool.{Bool, true, false, cond}
+use mathlib.Core.Bool.{Bool, true, false}
 use mathlib.Core.List.{List}
 use lib.Dec.{leb}
 use borrow.Author.Tests.{le-leb}
 use Rattle.bits.specs.Strings.{same}
 use Rattle.bits.specs.Bytes.{bitsOf}
-use Rattle.bits.proofs.Strings.{same-sound, same-self}
+use Rattle.bits.proofs.Strings.{same-sound}
 use Rattle.block.specs.declared.Method.{Method}
 use Rattle.block.specs.declared.Parity.{Parity}
 use Rattle.block.specs.Marks.{counted, checkBytes}
 use Rattle.block.specs.Check.{checkOf}
-use Rattle.block.specs.Read.{Framed, found, unframed, framed, Parts, partsOf, outputLength, ReadAnswer, taken, refusal, askCheck, readBlock}
+use Rattle.block.specs.Read.{Framed, found, unframed, framed, Parts, partsOf, outputLength, taken, askCheck, readBlock}
 use Rattle.guarantees.specs.Second.{AcceptedIsTaken}
-use Rattle.guarantees.proofs.Blocks.Framing.{CheckRight, Found, accepted-found, accepted-right}
+use Rattle.guarantees.proofs.Blocks.Numbers.{answer}
+use Rattle.guarantees.proofs.Blocks.Framing.{CheckRight, Found, accepted-found, parts, right-answer, accepted-right}
 
 pub record Taken (m : Method) (p : Parity) (line : List ℕ) (b : Parts) : Type 0 where
   pub framing : Found m p line
   pub check-right : CheckRight m p (framing .marks) line
   pub parts : partsOf m line (framing .marks) (framing .field) (framing .end) ≡ b
-
--- the answers to 18 and 19
-abbrev answer : Bool → Bool → Parts → ReadAnswer
-answer right fits b = cond right (cond fits (taken b) (refusal 19 (outputLength b))) (refusal 18 0)
 
 taken-only : (right fits : Bool) (a : Parts) {b : Parts} → answer right fits a ≡ taken b → (right ≡ true) × (a ≡ b)
 taken-only true true a h = (refl, cc)
@@ -47,13 +44,8 @@ taken-passed m p line room {b} h = go (framed m p line) refl h
         }
 
 pub accepted-is-taken : AcceptedIsTaken
-unfolding readBlock
 accepted-is-taken m p line acc =
     let r = accepted-found m p line acc in
     let right = accepted-right m p line r .0 acc in
-    let b = partsOf m line (r .marks) (r .field) (r .end) in
-    let received = bitsOf (checkBytes (r .marks) line) in (
-      b,
-      λ room h. ap (askCheck m p line room) (r .is-found)
-          ∙ ap₂ (λ t u. answer t u b) (ap (same received) (sym right) ∙ same-self received) (le-leb (outputLength b) room h),
-    )
+    let b = parts m p line r in
+    (b, λ room h. right-answer m p line r right room ∙ ap (λ fits. answer true fits b) (le-leb (outputLength b) room h))
