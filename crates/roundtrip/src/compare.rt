@@ -25,7 +25,7 @@ fn same_parts(header: &[u8], text: &[u8], out: &[u8]) -> bool
 }
 
 // Whether the block read is that of the parts written.
-pub fn same_block(
+pub(crate) fn same_block(
     b: Block,
     shape: Shape,
     end: EndSign,
@@ -54,7 +54,7 @@ pub fn same_block(
 }
 
 // Whether so many bytes were read as the content has, and the output starts with the content.
-pub fn same_content(bytes: usize, content: &[u8], out: &[u8]) -> bool
+pub(crate) fn same_content(bytes: usize, content: &[u8], out: &[u8]) -> bool
     requires { ⌜ length (now content) ≤ length (now out) ⌝ }
     ensures { λ r. ⌜ Decides r (ContentOf (now (content .entry)) bytes (now (out .entry))) ⌝ }
 {
