@@ -42,6 +42,10 @@ xor-assoc true false z = rw (false-xor z)
 xor-assoc true true false = refl
 xor-assoc true true true = refl
 
+-- a bit added twice is gone
+pub xor-cancel : (x y : Bool) → xor (xor x y) y ≡ x
+xor-cancel x y = rw (xor-assoc x y y, xor-self y) (xor-false x)
+
 pub xor-left-comm : (x y z : Bool) → xor x (xor y z) ≡ xor y (xor x z)
 xor-left-comm x y z = rw (← xor-assoc x y z, xor-comm x y, xor-assoc y x z)
 
