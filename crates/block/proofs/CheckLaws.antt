@@ -60,32 +60,32 @@ pub sums-are : (bs : List ℕ) → columnSums bs ≡ lowBits 7 (xorAll 0 bs)
 sums-are bs = sym (sums-xor 0 bs ∙ ap (λ z. xorBits z (columnSums bs)) (lowBits-zero 7) ∙ xorBits-zeros 7 (columnSums bs) (length-sums bs))
 
 -- a character with its parity bit: its seven bits, and the bit
-seven-low : (d : Bool) (x : ℕ) → (x % 128 + cond d 128 0) % 128 ≡ x % 128
-seven-low true x = omega arith
-seven-low false x = omega arith
-
-eighth : (d : Bool) (x : ℕ) → lowBits 1 ((x % 128 + cond d 128 0) / 128) ≡ d ∷ []
-unfolding lowBits
-eighth true x = let e : (x % 128 + 128) / 128 ≡ 1 = omega arith in ap (lowBits 1) e
-eighth false x = let e : (x % 128 + 0) / 128 ≡ 0 = omega arith in ap (lowBits 1) e
-
-eight-small : (d : Bool) (x : ℕ) → x % 128 + cond d 128 0 < 256
-eight-small true x = omega arith
-eight-small false x = omega arith
+pub withParity-mod : (p : Parity) (x : ℕ) → withParity p x % 128 ≡ x % 128
+unfolding withParity
+withParity-mod p x = go (xor (isOdd p) (parity (lowBits 7 x)))
+  where
+    go : (d : Bool) → (x % 128 + cond d 128 0) % 128 ≡ x % 128
+    go true = omega arith
+    go false = omega arith
 
 pub withParity-low : (p : Parity) (x : ℕ) → lowBits 7 (withParity p x) ≡ lowBits 7 x
-unfolding withParity
-withParity-low p x =
-    sym (lowBits-mod 7 (withParity p x)) ∙ ap (lowBits 7) (seven-low (xor (isOdd p) (parity (lowBits 7 x))) x) ∙ lowBits-mod 7 x
+withParity-low p x = sym (lowBits-mod 7 (withParity p x)) ∙ ap (lowBits 7) (withParity-mod p x) ∙ lowBits-mod 7 x
 
 pub withParity-bits : (p : Parity) (x : ℕ) → lowBits 8 (withParity p x) ≡ lowBits 7 x ++ xor (isOdd p) (parity (lowBits 7 x)) ∷ []
-unfolding withParity
-withParity-bits p x =
-    lowBits-append 7 1 (withParity p x) ∙ ap₂ _++_ (withParity-low p x) (eighth (xor (isOdd p) (parity (lowBits 7 x))) x)
+unfolding withParity lowBits
+withParity-bits p x = lowBits-append 7 1 (withParity p x) ∙ ap₂ _++_ (withParity-low p x) (go (xor (isOdd p) (parity (lowBits 7 x))))
+  where
+    go : (d : Bool) → lowBits 1 ((x % 128 + cond d 128 0) / 128) ≡ d ∷ []
+    go true = let e : (x % 128 + 128) / 128 ≡ 1 = omega arith in ap (lowBits 1) e
+    go false = let e : (x % 128 + 0) / 128 ≡ 0 = omega arith in ap (lowBits 1) e
 
 pub withParity-lt : (p : Parity) (x : ℕ) → withParity p x < 256
 unfolding withParity
-withParity-lt p x = eight-small (xor (isOdd p) (parity (lowBits 7 x))) x
+withParity-lt p x = go (xor (isOdd p) (parity (lowBits 7 x)))
+  where
+    go : (d : Bool) → x % 128 + cond d 128 0 < 256
+    go true = omega arith
+    go false = omega arith
 
 pub matrix-character : (p : Parity) (bs : List ℕ) → matrixCheck p bs ≡ lowBits 8 (withParity p (xorAll 0 bs))
 unfolding matrixCheck
