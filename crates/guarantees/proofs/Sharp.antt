@@ -3,6 +3,7 @@
 use mathlib.Core.Path.{_≡_, refl, ap}
 use Prim.Native.Nat.{ℕ}
 use native.Mathlib.Omega.{arith}
+use mathlib.Core.Bool.{xor}
 use mathlib.Core.List.{List, [], _∷_, _++_}
 use lib.ListN.{length, getD, replicate}
 use Rattle.bits.specs.Bytes.{lowBits, bitsOf, Bytes}
@@ -55,17 +56,17 @@ abbrev pub parityB : List ℕ
 parityB = 0x82 ∷ 0x42 ∷ 0x03 ∷ []
 
 pub parity-accepted : Accepted method.Parity Even parityA
-unfolding framed parityRight character signOf checkOf lowBits bitsOf
+unfolding framed parityRight character signOf checkOf lowBits bitsOf xor
 parity-accepted = text-accepted method.Parity Even parityA 1 refl refl
 
 pub parity-pair : TwoAccepted (blocks method.Parity Even) parityA parityB
-unfolding framed framingOf parityRight character signOf checkOf lowBits bitsOf
+unfolding framed framingOf parityRight character signOf checkOf lowBits bitsOf xor
 parity-pair =
     two-accepted method.Parity Even parityA parityB (omega arith) refl refl (λ e. omega arith) parity-accepted
     (text-accepted method.Parity Even parityB 1 refl refl)
 
 pub parity-two : distance (blocks method.Parity Even) parityA parityB ≡ 2
-unfolding lowBits bitsOf
+unfolding lowBits bitsOf xor
 parity-two = refl
 
 -- ---- method 2: four bits, in rows 1 and 5 of document 01; a burst of ten bits, where two characters are exchanged
@@ -77,17 +78,17 @@ abbrev pub row5 : List ℕ
 row5 = 0x82 ∷ 0x42 ∷ 0x03 ∷ 0x41 ∷ []
 
 pub matrix-accepted : Accepted method.Matrix Even row1
-unfolding framed parityRight character signOf checkOf matrixCheck columnSums lowBits bitsOf
+unfolding framed parityRight character signOf checkOf matrixCheck columnSums lowBits bitsOf xor
 matrix-accepted = text-accepted method.Matrix Even row1 1 refl refl
 
 pub matrix-pair : TwoAccepted (blocks method.Matrix Even) row1 row5
-unfolding framed framingOf parityRight character signOf checkOf matrixCheck columnSums lowBits bitsOf
+unfolding framed framingOf parityRight character signOf checkOf matrixCheck columnSums lowBits bitsOf xor
 matrix-pair =
     two-accepted method.Matrix Even row1 row5 (omega arith) refl refl (λ e. omega arith) matrix-accepted
     (text-accepted method.Matrix Even row5 1 refl refl)
 
 pub matrix-four : distance (blocks method.Matrix Even) row1 row5 ≡ 4
-unfolding lowBits bitsOf
+unfolding lowBits bitsOf xor
 matrix-four = refl
 
 abbrev pub exchangedA : List ℕ
@@ -97,14 +98,14 @@ abbrev pub exchangedB : List ℕ
 exchangedB = 0x82 ∷ 0x42 ∷ 0x41 ∷ 0x03 ∷ 0x00 ∷ []
 
 pub exchanged-pair : TwoAccepted (blocks method.Matrix Even) exchangedA exchangedB
-unfolding framed framingOf parityRight character signOf checkOf matrixCheck columnSums lowBits bitsOf
+unfolding framed framingOf parityRight character signOf checkOf matrixCheck columnSums lowBits bitsOf xor
 exchanged-pair =
     two-accepted method.Matrix Even exchangedA exchangedB (omega arith) refl refl (λ e. omega arith)
     (text-accepted method.Matrix Even exchangedA 2 refl refl)
     (text-accepted method.Matrix Even exchangedB 2 refl refl)
 
 pub exchanged-differing : differingChecked (blocks method.Matrix Even) exchangedA exchangedB ≡ 0 ∷ 1 ∷ 8 ∷ 9 ∷ []
-unfolding framed checkedBits parityRight character signOf lowBits bitsOf
+unfolding framed checkedBits parityRight character signOf lowBits bitsOf xor
 exchanged-differing = refl
 
 pub matrix-ten : Burst 10 (differingChecked (blocks method.Matrix Even) exchangedA exchangedB)
@@ -119,17 +120,17 @@ abbrev pub cyclicB : List ℕ
 cyclicB = 0x02 ∷ 0x55 ∷ 0x4C ∷ 0x45 ∷ 0x03 ∷ 0x0F ∷ 0xEE ∷ []
 
 pub cyclic-accepted : Accepted method.Cyclic Even cyclicA
-unfolding framed character signOf checkOf checkBits formula method3 ccitt16 remainder divide lowBits bitsOf
+unfolding framed character signOf checkOf checkBits formula method3 ccitt16 remainder divide lowBits bitsOf xor
 cyclic-accepted = text-accepted method.Cyclic Even cyclicA 3 refl refl
 
 pub cyclic-pair : TwoAccepted (blocks method.Cyclic Even) cyclicA cyclicB
-unfolding framed framingOf character signOf checkOf checkBits formula method3 ccitt16 remainder divide lowBits bitsOf
+unfolding framed framingOf character signOf checkOf checkBits formula method3 ccitt16 remainder divide lowBits bitsOf xor
 cyclic-pair =
     two-accepted method.Cyclic Even cyclicA cyclicB (omega arith) refl refl (λ e. omega arith) cyclic-accepted
     (text-accepted method.Cyclic Even cyclicB 3 refl refl)
 
 pub cyclic-differing : differingChecked (blocks method.Cyclic Even) cyclicA cyclicB ≡ 0 ∷ 4 ∷ 11 ∷ 16 ∷ []
-unfolding framed checkedBits character signOf lowBits bitsOf
+unfolding framed checkedBits character signOf lowBits bitsOf xor
 cyclic-differing = refl
 
 pub cyclic-seventeen : Burst 17 (differingChecked (blocks method.Cyclic Even) cyclicA cyclicB)
@@ -138,5 +139,5 @@ cyclic-seventeen = rw cyclic-differing (omega arith)
 -- ---- method 4
 
 pub cyclic-alternative-accepted : Accepted method.CyclicAlternative Even (0x02 ∷ 0x03 ∷ 0x40 ∷ 0x01 ∷ [])
-unfolding framed character signOf checkOf checkBits formula method4 ibm16 remainder divide lowBits bitsOf
+unfolding framed character signOf checkOf checkBits formula method4 ibm16 remainder divide lowBits bitsOf xor
 cyclic-alternative-accepted = text-accepted method.CyclicAlternative Even (0x02 ∷ 0x03 ∷ 0x40 ∷ 0x01 ∷ []) 0 refl refl
