@@ -1,5 +1,5 @@
 -- Characters and their parity (document 01, part 1; 003 par. 1.1). Assumes nothing.
-use Prim.Native.Nat.{ℕ, _+_, _*_, _%_}
+use Prim.Native.Nat.{ℕ, _+_, _%_}
 use mathlib.Core.Bool.{Bool, true, false, Bool·beq, cond, xor}
 use Rattle.bits.specs.Strings.{parity}
 use Rattle.bits.specs.Bytes.{lowBits}
