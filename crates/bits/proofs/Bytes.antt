@@ -4,14 +4,14 @@ use Prim.Native.Nat.{ℕ, zero, suc, _+_, _*_, _/_, _%_, _^_, _<_}
 use native.Mathlib.Omega.{arith}
 use native.Mathlib.Nat.{mod-eq-of-lt, div-eq-of-lt, pow-suc, zero-add, suc-add, div-one}
 use native.Mathlib.Numerals.{add-one, one-add}
-use mathlib.Core.Bool.{Bool, true, false}
+use mathlib.Core.Bool.{Bool, true, false, xor, cond}
 use mathlib.Core.List.{List, [], _∷_, _++_, append-assoc, append-nil}
 use lib.Dec.{eqb}
 use lib.Bits.{bitXor, xor-mod, xor-shr}
 use lib.Pow.{shr-shr, field, mod-mod-pow, mod-pow-add}
 use lib.ListN.{length, length-append}
-use Rattle.bits.specs.Strings.{add, xorBits, zeros, ones, invert}
-use Rattle.bits.specs.Bytes.{lowBits, bitsOf, Bytes, digit, value}
+use Rattle.bits.specs.Strings.{xorBits, zeros, ones, invert}
+use Rattle.bits.specs.Bytes.{lowBits, bitsOf, Bytes, value}
 use Rattle.bits.proofs.Strings.{append-split, invert-xor, xorBits-append, xorBits-comm}
 
 -- ---- lowBits
@@ -44,7 +44,8 @@ lowBits-mod (suc w) n =
     ∙ ap₂ (λ x z. eqb x 1 ∷ z) (mod-mod-pow n w 1) (ap (lowBits w) (field n w 1) ∙ lowBits-mod w (n / 2))
 
 -- the bits of the exclusive or of two numbers
-differ-bit : (x y : ℕ) → x < 2 → y < 2 → eqb (bitXor x y) 1 ≡ add (eqb x 1) (eqb y 1)
+differ-bit : (x y : ℕ) → x < 2 → y < 2 → eqb (bitXor x y) 1 ≡ xor (eqb x 1) (eqb y 1)
+unfolding xor
 differ-bit zero zero h k = refl
 differ-bit zero (suc zero) h k = refl
 differ-bit zero (suc (suc y)) h k = absurd (omega arith)
@@ -75,7 +76,7 @@ value-lt [] = omega arith
 value-lt (true ∷ s) = omega (arith, value-lt s, pow-suc 2 (length s))
 value-lt (false ∷ s) = omega (arith, value-lt s, pow-suc 2 (length s))
 
-pub value-snoc : (s : List Bool) (b : Bool) → value (s ++ b ∷ []) ≡ value s + digit b * 2 ^ length s
+pub value-snoc : (s : List Bool) (b : Bool) → value (s ++ b ∷ []) ≡ value s + cond b (2 ^ length s) 0
 unfolding value
 value-snoc [] true = refl
 value-snoc [] false = refl
@@ -89,11 +90,11 @@ lowBits-value [] = refl
 lowBits-value (b ∷ s) =
     ap₂ (λ x y. x ∷ lowBits (length s) y) (first b) (rest b) ∙ ap (λ z. b ∷ z) (lowBits-value s)
   where
-    first : (c : Bool) → eqb ((digit c + 2 * value s) % 2) 1 ≡ c
+    first : (c : Bool) → eqb ((cond c 1 0 + 2 * value s) % 2) 1 ≡ c
     first true = ap (λ x. eqb x 1) {x = (1 + 2 * value s) % 2} {y = 1} (omega arith)
     first false = ap (λ x. eqb x 1) {x = (0 + 2 * value s) % 2} {y = 0} (omega arith)
 
-    rest : (c : Bool) → (digit c + 2 * value s) / 2 ≡ value s
+    rest : (c : Bool) → (cond c 1 0 + 2 * value s) / 2 ≡ value s
     rest true = omega arith
     rest false = omega arith
 
@@ -102,16 +103,16 @@ pub lowBits-value-zeros : (s : List Bool) (k : ℕ) → lowBits (length s + k) (
 lowBits-value-zeros s k =
     lowBits-append (length s) k (value s) ∙ ap₂ (λ x y. x ++ lowBits k y) (lowBits-value s) (div-eq-of-lt (value-lt s)) ∙ ap (λ z. s ++ z) (lowBits-zero k)
 
-digit-odd : (d : ℕ) → d < 2 → digit (eqb d 1) ≡ d
-digit-odd zero h = refl
-digit-odd (suc zero) h = refl
-digit-odd (suc (suc d)) h = absurd (omega arith)
+odd-bit : (d : ℕ) → d < 2 → cond (eqb d 1) 1 0 ≡ d
+odd-bit zero h = refl
+odd-bit (suc zero) h = refl
+odd-bit (suc (suc d)) h = absurd (omega arith)
 
 pub value-lowBits : (w n : ℕ) → value (lowBits w n) ≡ n % 2 ^ w
 unfolding lowBits value
 value-lowBits zero n = omega arith
 value-lowBits (suc w) n =
-    ap₂ (λ x y. x + 2 * y) (digit-odd (n % 2) (omega arith)) (value-lowBits w (n / 2))
+    ap₂ (λ x y. x + 2 * y) (odd-bit (n % 2) (omega arith)) (value-lowBits w (n / 2))
     ∙ omega (arith, mod-pow-add n w 1, ap (λ k. n % 2 ^ k) (add-one w))
 
 -- a number of w bits is known by them

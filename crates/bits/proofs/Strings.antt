@@ -2,29 +2,52 @@
 use mathlib.Core.Path.{_≡_, refl, sym, ap, ap₂, _∙_}
 use Prim.Native.Nat.{ℕ, zero, suc, _+_, _%_}
 use native.Mathlib.Omega.{arith}
-use mathlib.Core.Bool.{Bool, true, false, not}
+use mathlib.Core.Bool.{Bool, true, false, not, xor, cond}
 use mathlib.Core.List.{List, [], _∷_, _++_}
 use lib.Dec.{T}
 use lib.ListN.{length, length-replicate, replicate-append-replicate}
-use Rattle.bits.specs.Strings.{add, xorBits, zeros, ones, invert, weight, parity, same}
-use Rattle.bits.specs.Bytes.{digit}
+use Rattle.bits.specs.Strings.{xorBits, zeros, ones, invert, weight, parity, same}
 
--- ---- add
+-- ---- xor, the sum of two bits
 
-pub add-comm : (x y : Bool) → add x y ≡ add y x
-add-comm true true = refl
-add-comm true false = refl
-add-comm false true = refl
-add-comm false false = refl
+pub false-xor : (x : Bool) → xor false x ≡ x
+unfolding xor
+false-xor true = refl
+false-xor false = refl
 
-pub add-assoc : (x y z : Bool) → add (add x y) z ≡ add x (add y z)
-add-assoc false y z = refl
-add-assoc true false z = refl
-add-assoc true true false = refl
-add-assoc true true true = refl
+pub true-xor : (x : Bool) → xor true x ≡ not x
+unfolding xor
+true-xor true = refl
+true-xor false = refl
 
-pub add-left-comm : (x y z : Bool) → add x (add y z) ≡ add y (add x z)
-add-left-comm x y z = rw (← add-assoc x y z, add-comm x y, add-assoc y x z)
+pub xor-self : (x : Bool) → xor x x ≡ false
+unfolding xor
+xor-self true = refl
+xor-self false = refl
+
+pub xor-comm : (x y : Bool) → xor x y ≡ xor y x
+unfolding xor
+xor-comm true true = refl
+xor-comm true false = refl
+xor-comm false true = refl
+xor-comm false false = refl
+
+pub xor-false : (x : Bool) → xor x false ≡ x
+xor-false x = xor-comm x false ∙ false-xor x
+
+pub xor-assoc : (x y z : Bool) → xor (xor x y) z ≡ xor x (xor y z)
+unfolding xor
+xor-assoc false y z = rw (false-xor y, false-xor (xor y z))
+xor-assoc true false z = rw (false-xor z)
+xor-assoc true true false = refl
+xor-assoc true true true = refl
+
+-- a bit added twice is gone
+pub xor-cancel : (x y : Bool) → xor (xor x y) y ≡ x
+xor-cancel x y = rw (xor-assoc x y y, xor-self y) (xor-false x)
+
+pub xor-left-comm : (x y z : Bool) → xor x (xor y z) ≡ xor y (xor x z)
+xor-left-comm x y z = rw (← xor-assoc x y z, xor-comm x y, xor-assoc y x z)
 
 -- ---- zeros
 
@@ -50,13 +73,13 @@ pub xorBits-comm : (a b : List Bool) → xorBits a b ≡ xorBits b a
 xorBits-comm [] [] = refl
 xorBits-comm [] (y ∷ b) = refl
 xorBits-comm (x ∷ a) [] = refl
-xorBits-comm (x ∷ a) (y ∷ b) = rw (add-comm x y, xorBits-comm a b)
+xorBits-comm (x ∷ a) (y ∷ b) = rw (xor-comm x y, xorBits-comm a b)
 
 pub xorBits-assoc : (a b c : List Bool) → xorBits (xorBits a b) c ≡ xorBits a (xorBits b c)
 xorBits-assoc [] b c = refl
 xorBits-assoc (x ∷ a) [] c = refl
 xorBits-assoc (x ∷ a) (y ∷ b) [] = refl
-xorBits-assoc (x ∷ a) (y ∷ b) (z ∷ c) = rw (add-assoc x y z, xorBits-assoc a b c)
+xorBits-assoc (x ∷ a) (y ∷ b) (z ∷ c) = rw (xor-assoc x y z, xorBits-assoc a b c)
 
 pub xorBits-left-comm : (a b c : List Bool) → xorBits a (xorBits b c) ≡ xorBits b (xorBits a c)
 xorBits-left-comm a b c = rw (← xorBits-assoc a b c, xorBits-comm a b, xorBits-assoc b a c)
@@ -69,12 +92,11 @@ pub xorBits-zeros : (n : ℕ) (a : List Bool) → length a ≡ n → xorBits (ze
 xorBits-zeros zero [] h = refl
 xorBits-zeros zero (x ∷ a) h = absurd (omega arith)
 xorBits-zeros (suc n) [] h = absurd (omega arith)
-xorBits-zeros (suc n) (x ∷ a) h = rw (xorBits-zeros n a (omega arith))
+xorBits-zeros (suc n) (x ∷ a) h = rw (false-xor x, xorBits-zeros n a (omega arith))
 
 pub xorBits-self : (a : List Bool) → xorBits a a ≡ zeros (length a)
 xorBits-self [] = refl
-xorBits-self (true ∷ a) = rw (xorBits-self a)
-xorBits-self (false ∷ a) = rw (xorBits-self a)
+xorBits-self (x ∷ a) = rw (xor-self x, xorBits-self a)
 
 -- a string added twice is gone
 pub xorBits-cancel : (p a : List Bool) → length a ≡ length p → xorBits p (xorBits p a) ≡ a
@@ -96,7 +118,7 @@ xorBits-append (x ∷ a) (y ∷ b) c d h = rw (xorBits-append a b c d (omega ari
 
 pub invert-xor : (a : List Bool) → invert a ≡ xorBits (ones (length a)) a
 invert-xor [] = refl
-invert-xor (x ∷ a) = ap (λ z. not x ∷ z) (invert-xor a)
+invert-xor (x ∷ a) = rw (invert-xor a, true-xor x)
 
 -- ---- two strings of one length, each with a rest: equal where both parts are
 
@@ -130,25 +152,25 @@ weight-zero (false ∷ a) h = ap (λ z. false ∷ z) (weight-zero a h)
 
 pub parity-zeros : (n : ℕ) → parity (zeros n) ≡ false
 parity-zeros zero = refl
-parity-zeros (suc n) = parity-zeros n
+parity-zeros (suc n) = rw (parity-zeros n) (false-xor false)
 
-pub parity-snoc : (a : List Bool) (b : Bool) → parity (a ++ b ∷ []) ≡ add b (parity a)
+pub parity-snoc : (a : List Bool) (b : Bool) → parity (a ++ b ∷ []) ≡ xor b (parity a)
 parity-snoc [] b = refl
-parity-snoc (x ∷ a) b = rw (parity-snoc a b) (add-left-comm x b (parity a))
+parity-snoc (x ∷ a) b = rw (parity-snoc a b) (xor-left-comm x b (parity a))
 
-pub parity-xor : (a b : List Bool) → length a ≡ length b → parity (xorBits a b) ≡ add (parity a) (parity b)
-parity-xor [] [] h = refl
+pub parity-xor : (a b : List Bool) → length a ≡ length b → parity (xorBits a b) ≡ xor (parity a) (parity b)
+parity-xor [] [] h = sym (false-xor false)
 parity-xor [] (y ∷ b) h = absurd (omega arith)
 parity-xor (x ∷ a) [] h = absurd (omega arith)
 parity-xor (x ∷ a) (y ∷ b) h =
-    rw (parity-xor a b (omega arith), add-assoc x y (add (parity a) (parity b)), add-left-comm y (parity a) (parity b), add-assoc x (parity a) (add y (parity b)))
+    rw (parity-xor a b (omega arith), xor-assoc x y (xor (parity a) (parity b)), xor-left-comm y (parity a) (parity b), xor-assoc x (parity a) (xor y (parity b)))
 
-pub weight-parity : (a : List Bool) → weight a % 2 ≡ digit (parity a)
+pub weight-parity : (a : List Bool) → weight a % 2 ≡ cond (parity a) 1 0
 weight-parity [] = refl
-weight-parity (false ∷ a) = weight-parity a
-weight-parity (true ∷ a) = go (parity a) (weight-parity a)
+weight-parity (false ∷ a) = rw (false-xor (parity a)) (weight-parity a)
+weight-parity (true ∷ a) = rw (true-xor (parity a)) (go (parity a) (weight-parity a))
   where
-    go : (b : Bool) → weight a % 2 ≡ digit b → suc (weight a) % 2 ≡ digit (not b)
+    go : (b : Bool) → weight a % 2 ≡ cond b 1 0 → suc (weight a) % 2 ≡ cond (not b) 1 0
     go true h = omega arith
     go false h = omega arith
 

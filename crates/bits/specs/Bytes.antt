@@ -1,6 +1,6 @@
 -- Numbers and bytes as bit strings, the lowest bit first, and back. Assumes nothing.
 use Prim.Native.Nat.{ℕ, zero, suc, _+_, _*_, _/_, _%_, _<_}
-use mathlib.Core.Bool.{Bool, true, false}
+use mathlib.Core.Bool.{Bool, cond}
 use mathlib.Core.List.{List, [], _∷_, _++_}
 use lib.Dec.{eqb}
 use lib.ListN.{length, take, drop}
@@ -21,13 +21,9 @@ Bytes [] = Unit
 Bytes (b ∷ bs) = (b < 256) × Bytes bs
 
 -- the number whose bits these are
-abbrev pub digit : Bool → ℕ
-digit true = 1
-digit false = 0
-
 unfoldable pub value : List Bool → ℕ
 value [] = 0
-value (b ∷ s) = digit b + 2 * value s
+value (b ∷ s) = cond b 1 0 + 2 * value s
 
 -- how many bytes n bits take
 abbrev pub bytesFor : ℕ → ℕ

@@ -1,19 +1,14 @@
 -- Bit strings. The first bit is the first sent; where a string stands for a polynomial it is the highest power. Assumes nothing.
 use Prim.Native.Nat.{ℕ, zero, suc}
-use mathlib.Core.Bool.{Bool, true, false, not, _&&_, Bool·beq}
+use mathlib.Core.Bool.{Bool, true, false, not, _&&_, xor, Bool·beq}
 use mathlib.Core.List.{List, [], _∷_, map}
 use lib.ListN.{replicate}
 
--- the sum of two bits modulo 2
-abbrev pub add : Bool → Bool → Bool
-add true b = not b
-add false b = b
-
--- the sum of two strings bit by bit, as long as the shorter one
+-- the sum of two strings bit by bit, as long as the shorter one; the sum of two bits modulo 2 is xor
 abbrev pub xorBits : List Bool → List Bool → List Bool
 xorBits [] b = []
 xorBits (x ∷ a) [] = []
-xorBits (x ∷ a) (y ∷ b) = add x y ∷ xorBits a b
+xorBits (x ∷ a) (y ∷ b) = xor x y ∷ xorBits a b
 
 abbrev pub zeros : ℕ → List Bool
 zeros n = replicate n false
@@ -33,7 +28,7 @@ weight (false ∷ a) = weight a
 -- the sum of all bits modulo 2: whether the weight is odd
 abbrev pub parity : List Bool → Bool
 parity [] = false
-parity (x ∷ a) = add x (parity a)
+parity (x ∷ a) = xor x (parity a)
 
 -- whether two strings are equal
 abbrev pub same : List Bool → List Bool → Bool

@@ -2,11 +2,12 @@
 use mathlib.Core.Path.{_≡_, refl, ap, _∙_}
 use Prim.Native.Nat.{ℕ, _+_, _/_, _%_, _<_}
 use native.Mathlib.Omega.{arith}
-use mathlib.Core.Bool.{Bool, true, false, Bool·beq}
+use mathlib.Core.Bool.{Bool, true, false, not, Bool·beq, xor, cond}
 use lib.Bits.{bitXor}
 use lib.Dec.{T, eqb}
-use Rattle.bits.specs.Strings.{add, parity}
-use Rattle.bits.specs.Bytes.{lowBits, digit}
+use Rattle.bits.specs.Strings.{parity}
+use Rattle.bits.specs.Bytes.{lowBits}
+use Rattle.bits.proofs.Strings.{xor-comm}
 use Rattle.bits.proofs.Bytes.{lowBits-mod}
 use Rattle.division.proofs.Order.{all, all-at}
 use Rattle.block.specs.declared.Parity.{Parity}
@@ -30,7 +31,7 @@ abbrev right : ℕ → Bool
 right b = Bool·beq (oddByFolding b) (parity (lowBits 8 b))
 
 folding-right : T (all right 256)
-unfolding lowBits
+unfolding lowBits xor
 folding-right = tt
 
 pub parity-folded : (b : ℕ) → b < 256 → oddByFolding b ≡ parity (lowBits 8 b)
@@ -39,7 +40,7 @@ parity-folded b h = beq-sound (oddByFolding b) (parity (lowBits 8 b)) (all-at ri
 -- ---- the parity bit: the eighth bit of a character below 128 is clear
 
 seven-parity : T (all (λ b. Bool·beq (parity (lowBits 8 b)) (parity (lowBits 7 b))) 128)
-unfolding lowBits
+unfolding lowBits xor
 seven-parity = tt
 
 pub parity-seven : (b : ℕ) → parity (lowBits 8 (b % 128)) ≡ parity (lowBits 7 b)
@@ -47,29 +48,15 @@ parity-seven b =
     beq-sound _ _ (all-at (λ b. Bool·beq (parity (lowBits 8 b)) (parity (lowBits 7 b))) 128 (b % 128) seven-parity (omega arith))
     ∙ ap parity (lowBits-mod 7 b)
 
-digit-same : (x y : Bool) → Bool·beq x y ≡ true → digit (add y x) ≡ 0
-digit-same true true e = refl
-digit-same true false e = absurd (let z : _≡_ {A = ℕ} 0 1 = cc in omega arith)
-digit-same false true e = absurd (let z : _≡_ {A = ℕ} 0 1 = cc in omega arith)
-digit-same false false e = refl
-
-digit-other : (x y : Bool) → Bool·beq x y ≡ false → digit (add y x) ≡ 1
-digit-other true true e = absurd (let z : _≡_ {A = ℕ} 0 1 = cc in omega arith)
-digit-other true false e = refl
-digit-other false true e = refl
-digit-other false false e = absurd (let z : _≡_ {A = ℕ} 0 1 = cc in omega arith)
-
 module _ (p : Parity) (b : ℕ) {odd want : Bool} (o : odd ≡ parity (lowBits 8 (b % 128))) (w : want ≡ isOdd p) where
+  top-bit : (equal : Bool) → Bool·beq odd want ≡ equal → withParity p b ≡ b % 128 + cond (not equal) 128 0
+  unfolding withParity xor
+  top-bit equal e =
+      let d : xor (parity (lowBits 7 b)) (isOdd p) ≡ not equal = rw (← parity-seven b, ← o, ← w) (ap not e) in
+      ap (λ t. b % 128 + cond t 128 0) (xor-comm (isOdd p) (parity (lowBits 7 b)) ∙ d)
+
   pub parity-clear : Bool·beq odd want ≡ true → b % 128 ≡ withParity p b
-  unfolding withParity
-  parity-clear e =
-      let d : digit (add (isOdd p) (parity (lowBits 7 b))) ≡ 0 =
-      rw (← parity-seven b, ← o, ← w) (digit-same odd want e) in
-      omega arith
+  parity-clear e = omega (arith, top-bit true e)
 
   pub parity-set : Bool·beq odd want ≡ false → b % 128 + 128 ≡ withParity p b
-  unfolding withParity
-  parity-set e =
-      let d : digit (add (isOdd p) (parity (lowBits 7 b))) ≡ 1 =
-      rw (← parity-seven b, ← o, ← w) (digit-other odd want e) in
-      omega arith
+  parity-set e = omega (arith, top-bit false e)

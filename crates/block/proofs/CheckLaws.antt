@@ -1,14 +1,14 @@
 -- The checks over bytes: registers of the cyclic methods, the matrix's check character, and how long a check is. Assumes nothing.
 use mathlib.Core.Path.{_≡_, refl, sym, ap, ap₂, _∙_}
-use Prim.Native.Nat.{ℕ, _+_, _*_, _/_, _%_, _^_, _≤_, _<_}
+use Prim.Native.Nat.{ℕ, _+_, _/_, _%_, _^_, _≤_, _<_}
 use native.Mathlib.Omega.{arith}
-use mathlib.Core.Bool.{Bool, true, false}
+use mathlib.Core.Bool.{Bool, true, false, xor, cond}
 use mathlib.Core.List.{List, [], _∷_, _++_}
 use lib.Bits.{bitXor}
 use lib.Dec.{lit<}
 use lib.ListN.{length, length-append}
-use Rattle.bits.specs.Strings.{add, xorBits, zeros, parity}
-use Rattle.bits.specs.Bytes.{lowBits, bitsOf, bytesFor, digit, pack}
+use Rattle.bits.specs.Strings.{xorBits, zeros, parity}
+use Rattle.bits.specs.Bytes.{lowBits, bitsOf, bytesFor, pack}
 use Rattle.bits.proofs.Bytes.{length-lowBits, lowBits-append, lowBits-mod, lowBits-xor, lowBits-zero}
 use Rattle.bits.proofs.Strings.{xorBits-comm, xorBits-assoc, xorBits-zeros, length-xor}
 use Rattle.bits.proofs.Packing.{length-pack}
@@ -59,39 +59,38 @@ length-sums (b ∷ bs) = length-xor (lowBits 7 b) (columnSums bs) (length-lowBit
 pub sums-are : (bs : List ℕ) → columnSums bs ≡ lowBits 7 (xorAll 0 bs)
 sums-are bs = sym (sums-xor 0 bs ∙ ap (λ z. xorBits z (columnSums bs)) (lowBits-zero 7) ∙ xorBits-zeros 7 (columnSums bs) (length-sums bs))
 
-one-digit : (d : Bool) → lowBits 1 (digit d) ≡ d ∷ []
-unfolding lowBits
-one-digit true = refl
-one-digit false = refl
-
-digit-small : (d : Bool) → digit d < 2
-digit-small true = omega arith
-digit-small false = omega arith
-
 -- a character with its parity bit: its seven bits, and the bit
-pub withParity-low : (p : Parity) (x : ℕ) → lowBits 7 (withParity p x) ≡ lowBits 7 x
+pub withParity-mod : (p : Parity) (x : ℕ) → withParity p x % 128 ≡ x % 128
 unfolding withParity
-withParity-low p x =
-    let n = x % 128 + 128 * digit (add (isOdd p) (parity (lowBits 7 x))) in
-    let e : n % 128 ≡ x % 128 = omega arith in
-    sym (lowBits-mod 7 n) ∙ ap (lowBits 7) e ∙ lowBits-mod 7 x
+withParity-mod p x = go (xor (isOdd p) (parity (lowBits 7 x)))
+  where
+    go : (d : Bool) → (x % 128 + cond d 128 0) % 128 ≡ x % 128
+    go true = omega arith
+    go false = omega arith
 
-pub withParity-bits : (p : Parity) (x : ℕ) → lowBits 8 (withParity p x) ≡ lowBits 7 x ++ add (isOdd p) (parity (lowBits 7 x)) ∷ []
-unfolding withParity
-withParity-bits p x =
-    let d = add (isOdd p) (parity (lowBits 7 x)) in
-    let n = x % 128 + 128 * digit d in
-    let e : n / 128 ≡ digit d = omega arith in
-    lowBits-append 7 1 n ∙ ap₂ _++_ (withParity-low p x) (ap (lowBits 1) e ∙ one-digit d)
+pub withParity-low : (p : Parity) (x : ℕ) → lowBits 7 (withParity p x) ≡ lowBits 7 x
+withParity-low p x = sym (lowBits-mod 7 (withParity p x)) ∙ ap (lowBits 7) (withParity-mod p x) ∙ lowBits-mod 7 x
+
+pub withParity-bits : (p : Parity) (x : ℕ) → lowBits 8 (withParity p x) ≡ lowBits 7 x ++ xor (isOdd p) (parity (lowBits 7 x)) ∷ []
+unfolding withParity lowBits
+withParity-bits p x = lowBits-append 7 1 (withParity p x) ∙ ap₂ _++_ (withParity-low p x) (go (xor (isOdd p) (parity (lowBits 7 x))))
+  where
+    go : (d : Bool) → lowBits 1 ((x % 128 + cond d 128 0) / 128) ≡ d ∷ []
+    go true = let e : (x % 128 + 128) / 128 ≡ 1 = omega arith in ap (lowBits 1) e
+    go false = let e : (x % 128 + 0) / 128 ≡ 0 = omega arith in ap (lowBits 1) e
 
 pub withParity-lt : (p : Parity) (x : ℕ) → withParity p x < 256
 unfolding withParity
-withParity-lt p x = omega (arith, digit-small (add (isOdd p) (parity (lowBits 7 x))))
+withParity-lt p x = go (xor (isOdd p) (parity (lowBits 7 x)))
+  where
+    go : (d : Bool) → x % 128 + cond d 128 0 < 256
+    go true = omega arith
+    go false = omega arith
 
 pub matrix-character : (p : Parity) (bs : List ℕ) → matrixCheck p bs ≡ lowBits 8 (withParity p (xorAll 0 bs))
 unfolding matrixCheck
 matrix-character p bs =
-    ap (λ s. s ++ add (isOdd p) (parity s) ∷ []) (sums-are bs) ∙ sym (withParity-bits p (xorAll 0 bs))
+    ap (λ s. s ++ xor (isOdd p) (parity s) ∷ []) (sums-are bs) ∙ sym (withParity-bits p (xorAll 0 bs))
 
 -- ---- lengths
 
@@ -103,7 +102,7 @@ check-short method.CyclicAlternative = omega arith
 
 length-matrix : (p : Parity) (bs : List ℕ) → length (matrixCheck p bs) ≡ 8
 unfolding matrixCheck
-length-matrix p bs = length-append (columnSums bs) (add (isOdd p) (parity (columnSums bs)) ∷ []) ∙ ap (λ n. n + 1) (length-sums bs)
+length-matrix p bs = length-append (columnSums bs) (xor (isOdd p) (parity (columnSums bs)) ∷ []) ∙ ap (λ n. n + 1) (length-sums bs)
 
 length-cyclic : (m : Parameters) → OfWidth 16 m → (c : _) → length (checkBits m c) ≡ 16
 length-cyclic m o c = length-check m (o .start-length ∙ sym (o .generator .width)) c ∙ o .generator .width

@@ -1,8 +1,8 @@
 -- Characters and their parity (document 01, part 1; 003 par. 1.1). Assumes nothing.
-use Prim.Native.Nat.{ℕ, _+_, _*_, _%_}
-use mathlib.Core.Bool.{Bool, true, false, Bool·beq, cond}
-use Rattle.bits.specs.Strings.{add, parity}
-use Rattle.bits.specs.Bytes.{lowBits, digit}
+use Prim.Native.Nat.{ℕ, _+_, _%_}
+use mathlib.Core.Bool.{Bool, true, false, Bool·beq, cond, xor}
+use Rattle.bits.specs.Strings.{parity}
+use Rattle.bits.specs.Bytes.{lowBits}
 use Rattle.block.specs.declared.Method.{Method}
 use Rattle.block.specs.declared.Method.the-variants as method
 use Rattle.block.specs.declared.Parity.{Parity}
@@ -29,7 +29,7 @@ parityRight p b = Bool·beq (parity (lowBits 8 b)) (isOdd p)
 
 -- a character with its parity bit on top
 unfoldable pub withParity : Parity → ℕ → ℕ
-withParity p b = b % 128 + 128 * digit (add (isOdd p) (parity (lowBits 7 b)))
+withParity p b = b % 128 + cond (xor (isOdd p) (parity (lowBits 7 b))) 128 0
 
 -- the byte by which a character is sent
 unfoldable pub sent : Bool → Parity → ℕ → ℕ

@@ -1,9 +1,9 @@
 -- The checks of methods 1 to 4 over the counted bytes: the bits that follow the end sign, in the order sent. Assumes nothing.
 use Prim.Native.Nat.{ℕ}
-use mathlib.Core.Bool.{Bool}
+use mathlib.Core.Bool.{Bool, xor}
 use mathlib.Core.List.{List, [], _∷_, _++_}
 use lib.Bits.{bitXor}
-use Rattle.bits.specs.Strings.{add, xorBits, zeros, parity}
+use Rattle.bits.specs.Strings.{xorBits, zeros, parity}
 use Rattle.bits.specs.Bytes.{lowBits, bitsOf}
 use Rattle.cyclic.specs.Check.{checkBits, method3, method4}
 use Rattle.block.specs.declared.Method.{Method}
@@ -18,7 +18,7 @@ columnSums (b ∷ bs) = xorBits (lowBits 7 b) (columnSums bs)
 
 -- the check character of the matrix: those sums, and the parity bit as the link sets it (003 par. 1.2.2)
 unfoldable pub matrixCheck : Parity → List ℕ → List Bool
-matrixCheck p bs = columnSums bs ++ add (isOdd p) (parity (columnSums bs)) ∷ []
+matrixCheck p bs = columnSums bs ++ xor (isOdd p) (parity (columnSums bs)) ∷ []
 
 unfoldable pub checkOf : Method → Parity → List ℕ → List Bool
 checkOf method.Parity p bs = []

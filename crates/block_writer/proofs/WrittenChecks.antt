@@ -2,9 +2,9 @@
 use mathlib.Core.Path.{_≡_, refl, sym, ap, ap₂, _∙_}
 use Prim.Native.Nat.{ℕ, _%_}
 use native.Mathlib.Omega.{arith}
-use mathlib.Core.Bool.{true, false}
+use mathlib.Core.Bool.{true, false, xor}
 use mathlib.Core.List.{List, [], _∷_, _++_, map}
-use Rattle.bits.specs.Strings.{add, xorBits, parity}
+use Rattle.bits.specs.Strings.{xorBits, parity}
 use Rattle.bits.specs.Bytes.{bitsOf, pack}
 use Rattle.bits.proofs.Packing.{pack-lowBits}
 use Rattle.cyclic.specs.Check.{Parameters, checkBits, method3, method4}
@@ -76,7 +76,7 @@ matrix-packed p bs =
     let n = withParity p (xorAll 0 bs) in
     let small : n ≡ n % 256 = omega (arith, withParity-lt p (xorAll 0 bs)) in
     ap (λ b. b ∷ []) small ∙ sym (pack-lowBits 1 n)
-    ∙ ap pack (sym (matrix-character p bs) ∙ ap (λ l. l ++ add (isOdd p) (parity l) ∷ []) (sym (columns-sent p bs)))
+    ∙ ap pack (sym (matrix-character p bs) ∙ ap (λ l. l ++ xor (isOdd p) (parity l) ∷ []) (sym (columns-sent p bs)))
 
 module _ (p : Parity) (s : Shape) (e : EndSign) (head body : List ℕ) where
   pub matrix-of : {sum check : ℕ} → sum ≡ xorAll 0 (checkedBytes s e head body) → check ≡ withParity p sum

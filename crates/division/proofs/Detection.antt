@@ -3,13 +3,12 @@ use mathlib.Core.Path.{_≡_, refl, sym, ap, _∙_}
 use mathlib.Core.Logic.{_↔_}
 use Prim.Native.Nat.{ℕ, suc, _+_, _-_, _≤_}
 use native.Mathlib.Omega.{arith}
-use mathlib.Core.Bool.{Bool, true, false, true≢false}
+use mathlib.Core.Bool.{Bool, true, false, true≢false, xor, cond}
 use mathlib.Core.List.{List, [], _∷_, _++_, append-cancel-left}
 use lib.ListN.{length, length-append, length-replicate}
-use Rattle.bits.specs.Strings.{add, xorBits, zeros, parity}
-use Rattle.bits.specs.Bytes.{digit}
+use Rattle.bits.specs.Strings.{xorBits, zeros, parity}
 use Rattle.bits.specs.Differences.{differing}
-use Rattle.bits.proofs.Strings.{length-zeros, length-xor, xorBits-zeros, xorBits-self, zeros-append, equal-of-xor, add-comm, add-assoc, add-left-comm, parity-snoc, parity-xor, parity-zeros, weight-parity}
+use Rattle.bits.proofs.Strings.{length-zeros, length-xor, xorBits-zeros, xorBits-self, zeros-append, equal-of-xor, false-xor, xor-false, xor-assoc, xor-left-comm, parity-snoc, parity-xor, parity-zeros, weight-parity}
 use Rattle.bits.proofs.Differences.{Window, burst-window, burst-widen, two-differing, one-differing, length-differing, equal-of-differing}
 use Rattle.division.specs.Division.{step, divide, remainder, Divides, power, PowerIsOne, constantTerm}
 use Rattle.division.specs.Laws.{Undetected, DifferenceDivides, DetectsBursts, DetectsOdd, TwoBits, DetectsTwo}
@@ -53,33 +52,34 @@ burst p a b l u n h e = window-equal p a b l u (burst-window (length p) a b (bur
 
 -- ---- odd numbers of bits, where the low part of the divisor has an odd number of terms: then a step adds just the new bit to the parity
 
-parity-step : (p r : List Bool) (b : Bool) → parity p ≡ true → length r ≡ length p → parity (step p r b) ≡ add b (parity r)
+parity-step : (p r : List Bool) (b : Bool) → parity p ≡ true → length r ≡ length p → parity (step p r b) ≡ xor b (parity r)
 parity-step [] [] b o h = absurd (true≢false (sym o))
 parity-step (x ∷ p) [] b o h = absurd (omega arith)
-parity-step p (true ∷ r) b o h = parity-xor p (r ++ b ∷ []) (simp length-append (omega arith)) ∙ rw (o, parity-snoc r b) (add-left-comm true b (parity r))
-parity-step p (false ∷ r) b o h = parity-snoc r b
+parity-step p (true ∷ r) b o h = parity-xor p (r ++ b ∷ []) (simp length-append (omega arith)) ∙ rw (o, parity-snoc r b) (xor-left-comm true b (parity r))
+parity-step p (false ∷ r) b o h = rw (false-xor (parity r)) (parity-snoc r b)
 
-parity-divide : (p r a : List Bool) → parity p ≡ true → length r ≡ length p → parity (divide p r a) ≡ add (parity a) (parity r)
+parity-divide : (p r a : List Bool) → parity p ≡ true → length r ≡ length p → parity (divide p r a) ≡ xor (parity a) (parity r)
 unfolding divide
-parity-divide p r [] o h = refl
+parity-divide p r [] o h = sym (false-xor (parity r))
 parity-divide p r (x ∷ a) o h =
     parity-divide p (step p r x) a o (length-step p r x h)
-    ∙ rw (parity-step p r x o h) (add-left-comm (parity a) x (parity r) ∙ sym (add-assoc x (parity a) (parity r)))
+    ∙ rw (parity-step p r x o h) (xor-left-comm (parity a) x (parity r) ∙ sym (xor-assoc x (parity a) (parity r)))
 
 pub parity-remainder : (p a : List Bool) → parity p ≡ true → parity (remainder p a) ≡ parity a
 unfolding remainder
 parity-remainder p a o =
     parity-divide p (zeros (length p)) a o (length-zeros (length p))
-    ∙ ap (add (parity a)) (parity-zeros (length p)) ∙ add-comm (parity a) false
+    ∙ ap (xor (parity a)) (parity-zeros (length p)) ∙ xor-false (parity a)
 
 pub even : DetectsOdd
 even p a b o u =
     weight-parity (xorBits a b)
-    ∙ ap digit (sym (parity-remainder p (xorBits a b) o) ∙ ap parity (divides p a b u) ∙ parity-zeros (length p))
+    ∙ ap (λ t. cond t 1 0) (sym (parity-remainder p (xorBits a b) o) ∙ ap parity (divides p a b u) ∙ parity-zeros (length p))
 
 -- ---- two bits
 
 pair-sum : (k : ℕ) → true ∷ (zeros k ++ true ∷ []) ≡ xorBits (true ∷ zeros (suc k)) (zeros (suc k) ++ true ∷ [])
+unfolding xor
 pair-sum k = ap (λ z. true ∷ z) (sym (xorBits-zeros (suc k) (zeros k ++ true ∷ []) (simp (length-append, length-replicate) (omega arith))))
 
 remainder-pair : (p : List Bool) (k : ℕ) → remainder p (true ∷ (zeros k ++ true ∷ [])) ≡ xorBits (power p (suc k)) (power p 0)

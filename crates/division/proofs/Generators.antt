@@ -2,7 +2,7 @@
 use mathlib.Core.Path.{_≡_, refl, sym, _∙_}
 use Prim.Native.Nat.{suc, _-_, _*_, _/_}
 use native.Mathlib.Omega.{arith}
-use mathlib.Core.Bool.{Bool, _&&_, true≢false}
+use mathlib.Core.Bool.{Bool, _&&_, true≢false, xor}
 use mathlib.Core.List.{List, [], _∷_, head-eq-of-cons-eq, tail-eq-of-cons-eq}
 use lib.Dec.{T}
 use Rattle.division.specs.Division.{divide, remainder, power}
@@ -25,30 +25,30 @@ unfolding ieee32
 ieee32-generator = record { width = refl; constant = refl }
 
 pub ccitt16-even : EvenTerms ccitt16
-unfolding ccitt16
+unfolding ccitt16 xor
 ccitt16-even = refl
 
 pub ibm16-even : EvenTerms ibm16
-unfolding ibm16
+unfolding ibm16 xor
 ibm16-even = refl
 
 -- ---- orders: 32,767 = 7 · 31 · 151, and 2^32 - 1 = 3 · 5 · 17 · 257 · 65,537
 
 ccitt16-certificate : T (certified ccitt16 15 order16 (7 ∷ 31 ∷ 151 ∷ []))
-unfolding ccitt16 divide remainder power
+unfolding ccitt16 divide remainder power xor
 ccitt16-certificate = tt
 
 ibm16-certificate : T (certified ibm16 15 order16 (7 ∷ 31 ∷ 151 ∷ []))
-unfolding ibm16 divide remainder power
+unfolding ibm16 divide remainder power xor
 ibm16-certificate = tt
 
 -- the order is a multiple of 65,535; the multiples within the limit are tried one by one
 ieee32-certificate : T (certified ieee32 32 4294967295 (3 ∷ 5 ∷ 17 ∷ 257 ∷ []))
-unfolding ieee32 divide remainder power
+unfolding ieee32 divide remainder power xor
 ieee32-certificate = tt
 
 ieee32-multiples : T (squares ieee32 && all (λ j. isNotOne ieee32 20 (65535 * suc j)) 8)
-unfolding ieee32 divide remainder power
+unfolding ieee32 divide remainder power xor
 ieee32-multiples = tt
 
 order-16 : (p : List Bool) → T (certified p 15 order16 (7 ∷ 31 ∷ 151 ∷ [])) → OrderIs p order16 reach16
@@ -73,11 +73,11 @@ order-ieee32 d h k e =
 -- ---- the receiver's remainders
 
 pub receiver-16 : Receiver16
-unfolding ccitt16 divide remainder
+unfolding ccitt16 divide remainder xor
 receiver-16 = refl
 
 pub receiver-32 : Receiver32
-unfolding ieee32 divide remainder
+unfolding ieee32 divide remainder xor
 receiver-32 = refl
 
 -- the printed string is another at the second digit

@@ -1,10 +1,10 @@
 -- Division is linear, and goes on from the register that a first part left. Assumes nothing.
 use mathlib.Core.Path.{_≡_, refl, sym, ap, _∙_}
 use native.Mathlib.Omega.{arith}
-use mathlib.Core.Bool.{Bool, true, false}
+use mathlib.Core.Bool.{Bool, true, false, xor}
 use mathlib.Core.List.{List, [], _∷_, _++_}
 use lib.ListN.{length, length-append}
-use Rattle.bits.specs.Strings.{add, xorBits, zeros}
+use Rattle.bits.specs.Strings.{xorBits, zeros}
 use Rattle.bits.proofs.Strings.{length-zeros, length-xor, xorBits-nil, xorBits-append, xorBits-assoc, xorBits-left-comm, xorBits-cancel, xorBits-zeros}
 use Rattle.division.specs.Division.{step, divide, remainder}
 use Rattle.division.specs.Laws.{RemainderIsLinear}
@@ -16,7 +16,8 @@ length-step p [] b h = h
 length-step p (true ∷ r) b h = length-xor p (r ++ b ∷ []) (omega (arith, length-append r (b ∷ []))) ∙ omega (arith, length-append r (b ∷ []))
 length-step p (false ∷ r) b h = omega (arith, length-append r (b ∷ []))
 
-pub step-linear : (p r s : List Bool) (b c : Bool) → length r ≡ length p → length s ≡ length p → step p (xorBits r s) (add b c) ≡ xorBits (step p r b) (step p s c)
+pub step-linear : (p r s : List Bool) (b c : Bool) → length r ≡ length p → length s ≡ length p → step p (xorBits r s) (xor b c) ≡ xorBits (step p r b) (step p s c)
+unfolding xor
 step-linear p [] s b c h k = refl
 step-linear p (t ∷ r) [] b c h k = sym (xorBits-nil (step p (t ∷ r) b))
 step-linear p (false ∷ r) (false ∷ s) b c h k = sym (xorBits-append r s (b ∷ []) (c ∷ []) (omega arith))

@@ -7,7 +7,7 @@ use mathlib.Core.Bool.{Bool, true, false}
 use mathlib.Core.List.{List, [], _∷_, _++_, append-assoc, append-nil}
 use lib.ListN.{length, length-append}
 use Rattle.bits.specs.Strings.{xorBits, zeros}
-use Rattle.bits.proofs.Strings.{length-zeros, zeros-append}
+use Rattle.bits.proofs.Strings.{length-zeros, zeros-append, false-xor}
 use Rattle.division.specs.Division.{step, divide, remainder, power, PowerIsOne}
 use Rattle.division.proofs.Linear.{length-step, length-remainder, remainder-append, remainder-xor}
 use Rattle.division.proofs.Zeros.{leading}
@@ -29,7 +29,7 @@ spread-append (x ∷ a) b = rw (spread-append a b)
 spread-xor : (a b : List Bool) → spread (xorBits a b) ≡ xorBits (spread a) (spread b)
 spread-xor [] b = refl
 spread-xor (x ∷ a) [] = refl
-spread-xor (x ∷ a) (y ∷ b) = rw (spread-xor a b)
+spread-xor (x ∷ a) (y ∷ b) = rw (spread-xor a b, false-xor false)
 
 length-spread : (a : List Bool) → length (spread a) ≡ length a + length a
 length-spread [] = refl

@@ -2,11 +2,11 @@
 use mathlib.Core.Path.{_≡_, refl, sym, ap, ap₂, _∙_}
 use Prim.Native.Nat.{ℕ, suc, _+_, _<_}
 use native.Mathlib.Omega.{arith}
-use mathlib.Core.Bool.{Bool, true, false}
+use mathlib.Core.Bool.{Bool, true, false, xor}
 use mathlib.Core.List.{List, [], _∷_, _++_, append-assoc, append-nil, head-eq-of-cons-eq, tail-eq-of-cons-eq}
 use lib.ListN.{length, length-append, length-replicate}
 use Rattle.bits.specs.Strings.{xorBits, zeros}
-use Rattle.bits.proofs.Strings.{zeros-snoc, length-zeros, length-xor, add-comm, xorBits-comm, xorBits-assoc, xorBits-cancel, xorBits-zeros, xorBits-self, xorBits-append}
+use Rattle.bits.proofs.Strings.{zeros-snoc, length-zeros, length-xor, xor-false, xorBits-comm, xorBits-assoc, xorBits-cancel, xorBits-zeros, xorBits-self, xorBits-append}
 use Rattle.division.specs.Division.{step, divide, remainder, Divides, power, scale, times, Divided}
 use Rattle.division.specs.Laws.{DivisionLaw, DivisionIsUnique}
 use Rattle.division.proofs.Linear.{length-step, length-remainder, remainder-append, remainder-xor}
@@ -39,6 +39,7 @@ abbrev From : List Bool → List Bool → List Bool → Type 0
 From p r a = (q : List Bool) × (length q ≡ length a) × (r ++ a ≡ xorBits (times q (true ∷ p)) (zeros (length a) ++ divide p r a))
 
 lead : (t : Bool) (p z x : List Bool) → xorBits (scale t (true ∷ p) ++ z) (false ∷ x) ≡ t ∷ xorBits (scale t p ++ z) x
+unfolding xor
 lead true p z x = refl
 lead false p z x = refl
 
@@ -54,7 +55,7 @@ from p (t ∷ r) (b ∷ a) w h = go (from p (step p (t ∷ r) b) a w (length-ste
       ap suc l,
       sym
           (ap (λ z. xorBits z (false ∷ (zeros (length a) ++ divide p (step p (t ∷ r) b) a))) (lead t p (zeros (length q)) (times q (true ∷ p)))
-          ∙ ap₂ (λ h z. h ∷ z) (add-comm t false)
+          ∙ ap₂ (λ h z. h ∷ z) (xor-false t)
           (xorBits-assoc (scale t p ++ zeros (length q)) (times q (true ∷ p)) (zeros (length a) ++ divide p (step p (t ∷ r) b) a)
           ∙ ap (xorBits (scale t p ++ zeros (length q))) (sym e)
           ∙ xorBits-append (scale t p) (step p (t ∷ r) b) (zeros (length q)) a (length-scale t p ∙ sym (length-step p (t ∷ r) b h))
@@ -82,7 +83,7 @@ power-width (x ∷ p) =
 
 -- a leading one is a power of x
 pub remainder-lead : (p a : List Bool) → remainder p (true ∷ a) ≡ xorBits (power p (length a)) (remainder p a)
-unfolding power
+unfolding power xor
 remainder-lead p a =
     ap (λ z. remainder p (true ∷ z)) (sym (xorBits-zeros (length a) a refl))
     ∙ remainder-xor p (true ∷ zeros (length a)) (false ∷ a) (ap suc (length-zeros (length a)))

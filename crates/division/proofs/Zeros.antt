@@ -2,11 +2,11 @@
 use mathlib.Core.Path.{_≡_, refl, sym, ap, _∙_}
 use Prim.Native.Nat.{ℕ, zero, suc, _+_, _-_, _≤_}
 use native.Mathlib.Omega.{arith}
-use mathlib.Core.Bool.{Bool, true, false, true≢false}
+use mathlib.Core.Bool.{Bool, true, false, true≢false, xor}
 use mathlib.Core.List.{List, [], _∷_, _++_, append-assoc, append-cancel-right, append-nil}
 use lib.ListN.{length}
-use Rattle.bits.specs.Strings.{add, xorBits, zeros}
-use Rattle.bits.proofs.Strings.{zeros-snoc, zeros-append, length-zeros, length-xor, xorBits-zeros, xorBits-self, equal-of-xor}
+use Rattle.bits.specs.Strings.{xorBits, zeros}
+use Rattle.bits.proofs.Strings.{zeros-snoc, zeros-append, length-zeros, length-xor, xorBits-zeros, xorBits-self, equal-of-xor, xor-false}
 use Rattle.division.specs.Division.{step, divide, remainder, Divides, constantTerm}
 use Rattle.division.specs.Laws.{LeadingZeros, TrailingZeros}
 use Rattle.division.proofs.Linear.{length-step, divide-append, length-divide, divide-linear, length-remainder, remainder-append}
@@ -32,7 +32,7 @@ leading p n a = divide-append p (zeros (length p)) (zeros n) a ∙ ap (λ z. div
 
 -- ---- trailing zeros
 
-last-xor : (a r : List Bool) (b : Bool) → length a ≡ suc (length r) → constantTerm (xorBits a (r ++ b ∷ [])) ≡ add (constantTerm a) b
+last-xor : (a r : List Bool) (b : Bool) → length a ≡ suc (length r) → constantTerm (xorBits a (r ++ b ∷ [])) ≡ xor (constantTerm a) b
 last-xor [] r b h = absurd (omega arith)
 last-xor (x ∷ []) [] b h = refl
 last-xor (x ∷ y ∷ a) [] b h = absurd (omega arith)
@@ -48,7 +48,7 @@ last-zeros (suc (suc n)) = last-zeros (suc n)
 -- x times a register is zero for none but zero: else the constant term of the divisor would stay
 step-kernel : (p r : List Bool) → constantTerm p ≡ true → length r ≡ length p → step p r false ≡ zeros (length p) → r ≡ zeros (length p)
 step-kernel p [] l h e = ap zeros h
-step-kernel p (true ∷ r) l h e = absurd (true≢false (cc (last-xor p r false (omega arith), last-zeros (length p))))
+step-kernel p (true ∷ r) l h e = absurd (true≢false (cc (last-xor p r false (omega arith), xor-false (constantTerm p), last-zeros (length p))))
 step-kernel p (false ∷ r) l h e =
     rw (← h) (ap (λ z. false ∷ z) (append-cancel-right r (zeros (length r)) (false ∷ []) (e ∙ ap zeros (sym h) ∙ sym (zeros-snoc (length r)))))
 

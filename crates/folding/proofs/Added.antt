@@ -3,11 +3,11 @@ use mathlib.Core.Path.{_≡_, refl, sym, ap, _∙_}
 use Prim.Native.Nat.{ℕ, _+_, _-_, _*_, _≤_}
 use native.Mathlib.Nat.{add-comm}
 use native.Mathlib.Omega.{arith}
-use mathlib.Core.Bool.{Bool}
+use mathlib.Core.Bool.{Bool, xor}
 use mathlib.Core.List.{List, [], _∷_, _++_, append-assoc, append-nil}
 use lib.ListN.{length, take, drop, length-append, take-append-drop}
 use lib.Seq.{length-take-le}
-use Rattle.bits.specs.Strings.{add, xorBits, zeros}
+use Rattle.bits.specs.Strings.{xorBits, zeros}
 use Rattle.bits.specs.Bytes.{bitsOf}
 use Rattle.bits.proofs.Strings.{length-zeros, xorBits-zeros, xorBits-append, zeros-append}
 use Rattle.bits.proofs.Bytes.{length-bitsOf, bitsOf-append}
@@ -25,7 +25,7 @@ xorBits-short [] b [] h = none b
     none (x ∷ c) = refl
 xorBits-short [] b (y ∷ m) h = absurd (omega arith)
 xorBits-short (x ∷ a) b [] h = refl
-xorBits-short (x ∷ a) b (y ∷ m) h = ap (λ (s : List Bool). add x y ∷ s) (xorBits-short a b m (omega arith))
+xorBits-short (x ∷ a) b (y ∷ m) h = ap (λ (s : List Bool). xor x y ∷ s) (xorBits-short a b m (omega arith))
 
 pub added-none : (k : ℕ) (m : List Bool) → added (zeros k) m ≡ m
 unfolding added

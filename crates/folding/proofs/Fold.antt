@@ -6,9 +6,9 @@ use native.Mathlib.Omega.{arith}
 use mathlib.Core.Bool.{Bool, true, false}
 use mathlib.Core.List.{List, [], _∷_, _++_, append-assoc}
 use lib.ListN.{length, length-append, length-replicate}
-use Rattle.bits.specs.Strings.{add, xorBits, zeros}
+use Rattle.bits.specs.Strings.{xorBits, zeros}
 use Rattle.bits.specs.Differences.{Each}
-use Rattle.bits.proofs.Strings.{length-zeros, length-xor, xorBits-four, xorBits-zeros, xorBits-append, zeros-append}
+use Rattle.bits.proofs.Strings.{xor-false, length-zeros, length-xor, xorBits-four, xorBits-zeros, xorBits-append, zeros-append}
 use Rattle.registers.specs.Register.{enter, entered}
 use Rattle.registers.proofs.Entered.{zeros-twice, length-entered, entered-xor, entered-zeros, entered-leading, enter-apart}
 use Rattle.registers.proofs.Enter.{enter-append, enter-linear}
@@ -77,14 +77,10 @@ module _ (p : List Bool) where
     first-apart b t k =
         let j = length t in
         let e : (b ∷ t) ++ zeros k ≡ xorBits ((b ∷ zeros j) ++ zeros k) (false ∷ (t ++ zeros k)) =
-        ap₂ (λ x y. x ∷ y) (added b) (sym (xorBits-append (zeros j) t (zeros k) (zeros k) (length-zeros j) ∙ ap₂ _++_ (xorBits-zeros j t refl) (zeros-twice k))) in
+        ap₂ (λ x y. x ∷ y) (sym (xor-false b)) (sym (xorBits-append (zeros j) t (zeros k) (zeros k) (length-zeros j) ∙ ap₂ _++_ (xorBits-zeros j t refl) (zeros-twice k))) in
         ap (entered p) e
         ∙ entered-xor p ((b ∷ zeros j) ++ zeros k) (false ∷ (t ++ zeros k)) (simp (length-append, length-replicate) (omega arith))
         ∙ ap (λ z. xorBits (entered p ((b ∷ zeros j) ++ zeros k)) z) (entered-leading p 1 (t ++ zeros k))
-      where
-        added : (x : Bool) → x ≡ add x false
-        added true = refl
-        added false = refl
 
     -- THE LAW
     pub powers : (t : List Bool) → Powers n es t

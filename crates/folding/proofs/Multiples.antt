@@ -6,7 +6,7 @@ use Rattle.bits.proofs.Strings.{same-sound}
 use Rattle.division.proofs.Generators.{ieee32-generator}
 use Prim.Native.Nat.{_+_, _≤_}
 use native.Mathlib.Omega.{arith}
-use mathlib.Core.Bool.{true}
+use mathlib.Core.Bool.{true, xor}
 use mathlib.Core.List.{[], _∷_}
 use Rattle.division.specs.Generators.{ccitt16, ibm16, ieee32}
 use Rattle.registers.specs.Register.{enter, entered}
@@ -15,16 +15,16 @@ use Rattle.bits.specs.Differences.{Each}
 use Rattle.folding.proofs.Fold.{Powers, sums}
 
 pub ccitt-powers : Powers ccitt16 256 ccittPowers (true ∷ [])
-unfolding ccitt16 enter
+unfolding ccitt16 enter xor
 ccitt-powers = refl
 
 pub ibm-powers : Powers ibm16 192 ibmPowers (true ∷ [])
-unfolding ibm16 enter
+unfolding ibm16 enter xor
 ibm-powers = refl
 
 -- the wide one as a test that is computed
 ieee-test : T (same (entered ieee32 (true ∷ zeros 320)) (sums 32 (λ e. entered ieee32 (true ∷ zeros e)) ieeePowers))
-unfolding ieee32 enter
+unfolding ieee32 enter xor
 ieee-test = tt
 
 pub ieee-powers : Powers ieee32 320 ieeePowers (true ∷ [])

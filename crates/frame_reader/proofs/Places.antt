@@ -1,7 +1,7 @@
 -- Bits at their places: a place of a row of bytes is a place of one of them, and a byte that is built bit by bit is the value of
 -- its bits. Assumes nothing.
 use mathlib.Core.Path.{_≡_, refl, sym, ap, _∙_, subst}
-use mathlib.Core.Bool.{Bool, true, false, true≢false}
+use mathlib.Core.Bool.{Bool, true, false, true≢false, cond}
 use mathlib.Core.List.{List, [], _∷_, _++_}
 use Prim.Native.Nat.{ℕ, zero, suc, _+_, _*_, _/_, _%_, _^_, _<_, _≤_}
 use native.Mathlib.Omega.{arith}
@@ -14,7 +14,7 @@ use lib.Bits.{bitAnd, bitOr, and-mask, or-shifted-r}
 use lib.ListN.{length, take, drop, getD, length-drop, List·getD-append}
 use lib.Seq.{getD-append-add, take-suc, length-take-le}
 use Rattle.bits.specs.Strings.{same}
-use Rattle.bits.specs.Bytes.{lowBits, bitsOf, digit, value}
+use Rattle.bits.specs.Bytes.{lowBits, bitsOf, value}
 use Rattle.bits.proofs.Strings.{same-sound, same-self}
 use Rattle.bits.proofs.Bytes.{length-bitsOf, length-lowBits, lowBits-value, value-lowBits, value-lt, value-snoc}
 
@@ -53,19 +53,19 @@ eight-from bs at h = omega (arith, length-drop at (bitsOf bs), length-bitsOf bs)
 -- ---- one bit more
 
 -- as code sets it: a one shifted up, into a byte that is smaller
-pub bit-set : (byte k : ℕ) → byte < 2 ^ k → k < 8 → bitOr byte (1 * 2 ^ k % 256) ≡ byte + 1 * 2 ^ k
+pub bit-set : (byte k : ℕ) → byte < 2 ^ k → k < 8 → bitOr byte (1 * 2 ^ k % 256) ≡ byte + 2 ^ k
 bit-set byte k small h =
     let e : 1 * 2 ^ k % 256 ≡ 1 * 2 ^ k = rw one-mul (mod-eq-of-lt (pow-lt h)) in
-    ap (bitOr byte) e ∙ or-shifted-r 1 k byte small ∙ add-comm (1 * 2 ^ k) byte
+    ap (bitOr byte) e ∙ or-shifted-r 1 k byte small ∙ add-comm (1 * 2 ^ k) byte ∙ ap (λ n. byte + n) (one-mul (2 ^ k))
 
 module _ (s : List Bool) (k : ℕ) (h : k < length s) where
   take-length : length (take k s) ≡ k
   take-length = length-take-le k s (omega arith)
 
-  pub value-more : value (take (k + 1) s) ≡ value (take k s) + digit (getD s k false) * 2 ^ k
+  pub value-more : value (take (k + 1) s) ≡ value (take k s) + cond (getD s k false) (2 ^ k) 0
   value-more =
       ap (λ n. value (take n s)) (add-one k) ∙ ap value (take-suc s k false h) ∙ value-snoc (take k s) (getD s k false)
-      ∙ ap (λ n. value (take k s) + digit (getD s k false) * 2 ^ n) take-length
+      ∙ ap (λ n. value (take k s) + cond (getD s k false) (2 ^ n) 0) take-length
 
   pub value-below : value (take k s) < 2 ^ k
   value-below = subst (λ (n : ℕ). value (take k s) < 2 ^ n) take-length (value-lt (take k s))

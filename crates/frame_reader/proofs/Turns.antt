@@ -1,7 +1,7 @@
 -- The loops of the reader: for each its invariant, that what is left to do gives the whole, where it begins, its turns and its end.
 -- Assumes nothing.
 use mathlib.Core.Path.{_≡_, refl, sym, ap, ap₂, _∙_, subst}
-use mathlib.Core.Bool.{Bool, true, false}
+use mathlib.Core.Bool.{Bool, true, false, cond}
 use mathlib.Core.List.{List, _∷_, _++_}
 use Prim.Native.Nat.{ℕ, _+_, _*_, _-_, _/_, _%_, _^_, _<_, _≤_}
 use native.Mathlib.Nat.{mod-eq-of-lt}
@@ -12,7 +12,7 @@ use native.Mathlib.Numerals.{add-one}
 use native.Mathlib.Omega.{arith}
 use lib.ListN.{length, take, drop, getD, set, length-set, length-append}
 use lib.Seq.{sets, take-at, drop-at}
-use Rattle.bits.specs.Bytes.{lowBits, bitsOf, digit, value, packInto}
+use Rattle.bits.specs.Bytes.{lowBits, bitsOf, value, packInto}
 use Rattle.bits.proofs.Bytes.{length-lowBits, lowBits-mod, value-lowBits}
 use Rattle.frame_reader.specs.declared.LineReader.{LineReader}
 use Rattle.frame_reader.specs.declared.ByteRead.{ByteRead}
@@ -38,11 +38,11 @@ module _ (s : List Bool) (long : 8 ≤ length s) {byte k : ℕ} (b : Building s 
   pub build-small : k < 8 → byte < 2 ^ k
   build-small h = let l : k < length s = omega arith in rw (b .so-far) (value-below s k l)
 
-  pub build-turn : k < 8 → {bit : Bool} → bit ≡ getD s k false → {next : ℕ} → next ≡ byte + digit bit * 2 ^ k → Building s next (k + 1)
+  pub build-turn : k < 8 → {bit : Bool} → bit ≡ getD s k false → {next : ℕ} → next ≡ byte + cond bit (2 ^ k) 0 → Building s next (k + 1)
   build-turn h {bit} e {next} q =
       let l : k < length s = omega arith in
       record {
-        so-far = q ∙ ap₂ (λ x y. x + digit y * 2 ^ k) (b .so-far) e ∙ sym (value-more s k l);
+        so-far = q ∙ ap₂ (λ x y. x + cond y (2 ^ k) 0) (b .so-far) e ∙ sym (value-more s k l);
         within = omega arith;
       }
 

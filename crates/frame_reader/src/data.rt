@@ -7,11 +7,11 @@ use zero_insertion::ReceivedByte;
 use zero_insertion::low_byte;
 use zero_insertion::unstuff_byte;
 ghost use mathlib.Core.Path.{_≡_};
-ghost use mathlib.Core.Bool.{false};
+ghost use mathlib.Core.Bool.{false, cond};
 ghost use Prim.Native.Nat.{_+_, _-_, _*_, _^_, _<_, _≤_};
 ghost use lib.ListN.{length, getD};
 ghost use lib.Seq.{sets};
-ghost use Rattle.bits.specs.Bytes.{bitsOf, digit, packInto};
+ghost use Rattle.bits.specs.Bytes.{bitsOf, packInto};
 ghost use Rattle.frame_reader.specs.Steps.{dataBetween, ReaderFits, ReadsOn, leftAt, ofRest, RestFits};
 
 // The bit at a place.
@@ -25,7 +25,7 @@ pub fn bit_at(lent: &[u8], at: usize) -> bool
 // A byte of k bits so far, with one more.
 pub fn with_bit(byte: u8, k: usize, bit: bool) -> u8
     requires { ⌜ (byte < 2 ^ k) × (k < 8) ⌝ }
-    ensures { λ r. ⌜ r ≡ byte + digit bit * 2 ^ k ⌝ }
+    ensures { λ r. ⌜ r ≡ byte + cond bit (2 ^ k) 0 ⌝ }
 {
     if bit { byte | (1u8 << k) } else { byte }
 }

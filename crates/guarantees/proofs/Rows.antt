@@ -1,5 +1,6 @@
 -- The starred rows of document 01 are what the rules say, by computation. Assumes nothing.
 use mathlib.Core.Path.{_≡_, refl}
+use mathlib.Core.Bool.{xor}
 use mathlib.Core.List.{map}
 use Rattle.bits.specs.Bytes.{lowBits, bitsOf, value, packInto, pack}
 use Rattle.division.specs.Division.{divide, remainder}
@@ -17,5 +18,5 @@ use Rattle.frame.specs.Write.{writeFrame}
 use Rattle.guarantees.specs.Rows.{resultOf, rows, results}
 
 pub starred-rows : map resultOf rows ≡ results
-unfolding lowBits bitsOf value packInto pack divide remainder ccitt16 ibm16 formula checkBits checkedBits method3 method4 method5 difference verdictFor receiving signOf character parityRight columnSums matrixCheck checkOf framed framingOf readBlock isFifth runOn stuff unstuff flag enclose frameOf frame-reading.framed writeFrame
+unfolding lowBits bitsOf value packInto pack divide remainder ccitt16 ibm16 formula checkBits checkedBits method3 method4 method5 difference verdictFor receiving signOf character parityRight columnSums matrixCheck checkOf framed framingOf readBlock isFifth runOn stuff unstuff flag enclose frameOf frame-reading.framed writeFrame xor
 starred-rows = refl

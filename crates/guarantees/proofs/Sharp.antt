@@ -2,7 +2,7 @@
 use mathlib.Core.Path.{_≡_, refl, ap, _∙_}
 use Prim.Native.Nat.{ℕ, suc, _<_}
 use native.Mathlib.Omega.{arith}
-use mathlib.Core.Bool.{Bool}
+use mathlib.Core.Bool.{Bool, xor}
 use mathlib.Core.List.{List, [], _∷_, _++_}
 use lib.ListN.{length, replicate}
 use Rattle.bits.specs.Strings.{weight}
@@ -87,7 +87,7 @@ module _ (m : Method) (p : Parity) (n : ℕ) where
 
 -- two bits of one character
 parity-pair : (p : Parity) → DifferInJust 2 (linesOf (method-1 p))
-unfolding framed framingOf parityRight character signOf checkOf lowBits bitsOf
+unfolding framed framingOf parityRight character signOf checkOf lowBits bitsOf xor
 parity-pair Even =
     record {
       A = 0x82 ∷ 0x41 ∷ 0x03 ∷ [];
@@ -105,7 +105,7 @@ parity-pair Odd =
 
 -- rows 1 and 5 of document 01; row 2 with its character and check exchanged
 matrix-pair : (p : Parity) → DifferInJust 4 (linesOf (method-2 p))
-unfolding framed framingOf parityRight character signOf checkOf matrixCheck columnSums lowBits bitsOf
+unfolding framed framingOf parityRight character signOf checkOf matrixCheck columnSums lowBits bitsOf xor
 matrix-pair Even =
     record {
       A = 0x82 ∷ 0x41 ∷ 0x03 ∷ 0x42 ∷ [];
@@ -123,7 +123,7 @@ matrix-pair Odd =
 
 -- two characters exchanged
 exchanged-pair : (p : Parity) → DifferInBurst 10 (linesOf (method-2 p))
-unfolding framed framingOf checkedBits parityRight character signOf checkOf matrixCheck columnSums lowBits bitsOf
+unfolding framed framingOf checkedBits parityRight character signOf checkOf matrixCheck columnSums lowBits bitsOf xor
 exchanged-pair Even =
     in-burst (third-property .burst-matrix Even)
     (text-pair method.Matrix Even 2 (0x82 ∷ 0x41 ∷ 0x42 ∷ 0x03 ∷ 0x00 ∷ []) (0x82 ∷ 0x42 ∷ 0x41 ∷ 0x03 ∷ 0x00 ∷ [])
@@ -135,14 +135,14 @@ exchanged-pair Odd =
 
 -- texts that differ by the generator: x^16 + x^12 + x^5 + 1, and x^16 + x^15 + x^2 + 1
 burst-3 : (p : Parity) → DifferInBurst 17 (linesOf (method-3 p))
-unfolding framed framingOf checkedBits character signOf checkOf checkBits formula method3 ccitt16 remainder divide lowBits bitsOf
+unfolding framed framingOf checkedBits character signOf checkOf checkBits formula method3 ccitt16 remainder divide lowBits bitsOf xor
 burst-3 p =
     in-burst (third-property .burst-16 (method-3 p) tt)
     (text-pair method.Cyclic p 3 (0x02 ∷ 0x44 ∷ 0x44 ∷ 0x44 ∷ 0x03 ∷ 0x0F ∷ 0xEE ∷ []) (0x02 ∷ 0x55 ∷ 0x4C ∷ 0x45 ∷ 0x03 ∷ 0x0F ∷ 0xEE ∷ [])
     (omega arith) refl refl (refl, refl) (refl, refl) refl) {ns = 0 ∷ 4 ∷ 11 ∷ 16 ∷ []} refl (omega arith)
 
 burst-4 : (p : Parity) → DifferInBurst 17 (linesOf (method-4 p))
-unfolding framed framingOf checkedBits character signOf checkOf checkBits formula method4 ibm16 remainder divide lowBits bitsOf
+unfolding framed framingOf checkedBits character signOf checkOf checkBits formula method4 ibm16 remainder divide lowBits bitsOf xor
 burst-4 p =
     in-burst (third-property .burst-16 (method-4 p) tt)
     (text-pair method.CyclicAlternative p 3 (0x02 ∷ 0x44 ∷ 0x71 ∷ 0x44 ∷ 0x03 ∷ 0x37 ∷ 0xEA ∷ [])
@@ -173,14 +173,14 @@ module _ (m : Parameters) where
       (frame-accepted C c, frame-accepted D d)
 
 burst-5 : DifferInBurst 17 (linesOf method-5)
-unfolding lowBits bitsOf checkBits cyclic.checkedBits formula method5 divide remainder ccitt16 isFifth runOn stuff unstuff behindFive flag enclose frameOf frame-reading.framed frame-reading.framingOf frame-lines.checkedBits
+unfolding lowBits bitsOf checkBits cyclic.checkedBits formula method5 divide remainder ccitt16 isFifth runOn stuff unstuff behindFive flag enclose frameOf frame-reading.framed frame-reading.framingOf frame-lines.checkedBits xor
 burst-5 =
     in-burst (third-property .burst-16 method-5 tt)
     (frame-pair method5 (0x79 ∷ 0x42 ∷ 0xBD ∷ []) (0x68 ∷ 0x4A ∷ 0xBC ∷ []) refl refl (refl, refl) (refl, refl) refl)
     {ns = 0 ∷ 4 ∷ 11 ∷ 16 ∷ []} refl (omega arith)
 
 burst-6 : DifferInBurst 33 (linesOf method-6)
-unfolding lowBits bitsOf checkBits cyclic.checkedBits formula method6 divide remainder ieee32 isFifth runOn stuff unstuff behindFive flag enclose frameOf frame-reading.framed frame-reading.framingOf frame-lines.checkedBits
+unfolding lowBits bitsOf checkBits cyclic.checkedBits formula method6 divide remainder ieee32 isFifth runOn stuff unstuff behindFive flag enclose frameOf frame-reading.framed frame-reading.framingOf frame-lines.checkedBits xor
 burst-6 =
     in-burst (third-property .burst-32)
     (frame-pair method6 (0x9A ∷ 0xD7 ∷ 0xC5 ∷ 0xB3 ∷ 0xD0 ∷ []) (0xDB ∷ 0xD1 ∷ 0xB4 ∷ 0x68 ∷ 0xD1 ∷ [])

@@ -3,7 +3,7 @@
 use mathlib.Core.Path.{_≡_, sym, ap, _∙_}
 use Prim.Native.Nat.{ℕ, _+_, _*_, _/_, _%_, _^_, _<_}
 use native.Mathlib.Nat.{mod-lt}
-use mathlib.Core.Bool.{Bool}
+use mathlib.Core.Bool.{Bool, xor}
 use mathlib.Core.List.{List}
 use lib.Bits.{bitXor}
 use lib.Dec.{T, eqb, eqb→eq, lit<}
@@ -28,7 +28,7 @@ ccittWord =
     (sum (sum (down 48 whole) (down 53 whole)) (down 60 whole)))))
 
 pub ccitt-word : T (atEachBit 16 ccitt16 ccittWord)
-unfolding atEachBit every lowBits enter ccitt16
+unfolding atEachBit every lowBits enter ccitt16 xor
 ccitt-word = tt
 
 abbrev pub ibmWord : WordMap
@@ -42,7 +42,7 @@ ibmWord =
     (sum (sum (down 48 whole) (down 50 whole)) (down 63 whole)))))))
 
 pub ibm-word : T (atEachBit 16 ibm16 ibmWord)
-unfolding atEachBit every lowBits enter ibm16
+unfolding atEachBit every lowBits enter ibm16 xor
 ibm-word = tt
 
 -- the bits of the quotient from the place k on, each with the one that many places further up
@@ -62,7 +62,7 @@ abbrev pub ieeeWord : WordMap
 ieeeWord = onward timesOne (onward timesTwo ieeeRest)
 
 pub ieee-word : T (atEachBit 32 ieee32 ieeeWord)
-unfolding atEachBit every lowBits enter ieee32
+unfolding atEachBit every lowBits enter ieee32 xor
 ieee-word = tt
 
 -- ---- bytes
@@ -91,7 +91,7 @@ ccittByte k =
     bitXor (bitXor (shl 16 8 q) (shl 16 3 q)) (q / 2 ^ 4)
 
 pub ccitt-byte : T (atEachByte 16 ccitt16 ccittByte)
-unfolding atEachByte every value divide lowBits ccitt16
+unfolding atEachByte every value divide lowBits ccitt16 xor
 ccitt-byte = tt
 
 abbrev pub ibmByte : ℕ → ℕ
@@ -102,7 +102,7 @@ ibmByte k =
     bitXor (bitXor (shl 16 8 q) (shl 16 6 q)) (q / 2 ^ 7)
 
 pub ibm-byte : T (atEachByte 16 ibm16 ibmByte)
-unfolding atEachByte every value divide lowBits ibm16
+unfolding atEachByte every value divide lowBits ibm16 xor
 ibm-byte = tt
 
 abbrev pub ieeeByte : ℕ → ℕ
@@ -114,5 +114,5 @@ ieeeByte k =
     (bitXor (shl 32 23 next) (bitXor (tenth / 2 ^ 2) (shl 32 12 tenth)))
 
 pub ieee-byte : T (atEachByte 32 ieee32 ieeeByte)
-unfolding atEachByte every value divide lowBits ieee32
+unfolding atEachByte every value divide lowBits ieee32 xor
 ieee-byte = tt

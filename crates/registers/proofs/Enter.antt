@@ -2,11 +2,11 @@
 use mathlib.Core.Path.{_≡_, refl, sym, ap, ap₂, _∙_}
 use Prim.Native.Nat.{ℕ, zero, suc, _<_}
 use native.Mathlib.Omega.{arith}
-use mathlib.Core.Bool.{Bool, true, false}
+use mathlib.Core.Bool.{Bool, true, false, xor}
 use mathlib.Core.List.{List, [], _∷_, _++_, append-assoc}
 use lib.ListN.{length, length-append, length-replicate}
-use Rattle.bits.specs.Strings.{add, xorBits, zeros}
-use Rattle.bits.proofs.Strings.{add-comm, add-assoc, add-left-comm, zeros-snoc, length-zeros, xorBits-comm, xorBits-zeros, xorBits-cancel}
+use Rattle.bits.specs.Strings.{xorBits, zeros}
+use Rattle.bits.proofs.Strings.{false-xor, xor-false, xor-assoc, xor-left-comm, zeros-snoc, length-zeros, xorBits-comm, xorBits-zeros, xorBits-cancel}
 use Rattle.division.specs.Division.{step, divide, remainder, power, scale}
 use Rattle.division.proofs.Linear.{length-step, step-linear, length-divide, divide-linear, remainder-append, remainder-xor}
 use Rattle.division.proofs.Zeros.{divide-zeros, leading, remainder-full}
@@ -18,23 +18,24 @@ use Rattle.registers.specs.Laws.{EnterIsFormula}
 
 pub length-enterBit : (p r : List Bool) (b : Bool) → length r ≡ length p → length (enterBit p r b) ≡ length p
 length-enterBit p [] b h = h
-length-enterBit p (t ∷ r) b h = length-step p (add t b ∷ r) false h
+length-enterBit p (t ∷ r) b h = length-step p (xor t b ∷ r) false h
 
-add-four : (a b c d : Bool) → add (add a b) (add c d) ≡ add (add a c) (add b d)
-add-four a b c d = rw (add-assoc a b (add c d), add-left-comm b c d, add-assoc a c (add b d))
+xor-four : (a b c d : Bool) → xor (xor a b) (xor c d) ≡ xor (xor a c) (xor b d)
+xor-four a b c d = rw (xor-assoc a b (xor c d), xor-left-comm b c d, xor-assoc a c (xor b d))
 
 enterBit-linear : (p r s : List Bool) (b c : Bool) → length r ≡ length p → length s ≡ length p
-    → enterBit p (xorBits r s) (add b c) ≡ xorBits (enterBit p r b) (enterBit p s c)
+    → enterBit p (xorBits r s) (xor b c) ≡ xorBits (enterBit p r b) (enterBit p s c)
+unfolding xor
 enterBit-linear p [] [] b c h k = refl
 enterBit-linear p [] (u ∷ s) b c h k = absurd (omega arith)
 enterBit-linear p (t ∷ r) [] b c h k = absurd (omega arith)
 enterBit-linear p (t ∷ r) (u ∷ s) b c h k =
-    ap (λ x. step p (x ∷ xorBits r s) false) (add-four t u b c) ∙ step-linear p (add t b ∷ r) (add u c ∷ s) false false h k
+    ap (λ x. step p (x ∷ xorBits r s) false) (xor-four t u b c) ∙ step-linear p (xor t b ∷ r) (xor u c ∷ s) false false h k
 
 -- a zero enters as in division
 enterBit-zero : (p r : List Bool) → enterBit p r false ≡ step p r false
 enterBit-zero p [] = refl
-enterBit-zero p (t ∷ r) = ap (λ x. step p (x ∷ r) false) (add-comm t false)
+enterBit-zero p (t ∷ r) = ap (λ x. step p (x ∷ r) false) (xor-false t)
 
 -- ---- enter
 
@@ -82,6 +83,7 @@ lowest p n true h =
     ∙ leading p n (true ∷ zeros (length p)) ∙ power-width p
 
 enterBit-scale : (p r : List Bool) (b : Bool) → length r ≡ length p → enterBit p r b ≡ xorBits (step p r false) (scale b p)
+unfolding xor
 enterBit-scale p [] b h = refl
 enterBit-scale p (t ∷ r) false h =
     let e = step p (t ∷ r) false in
@@ -99,7 +101,7 @@ brought-up (x ∷ p′) r b w h =
     let z = zeros (length p) in
     let lz = length-zeros (length p) in
     ap (λ y. divide p y z)
-    (ap (λ y. step p y b) (sym (xorBits-comm r z ∙ xorBits-zeros (length p) r h)) ∙ step-linear p r z false b h lz)
+    (ap₂ (step p) (sym (xorBits-comm r z ∙ xorBits-zeros (length p) r h)) (sym (false-xor b)) ∙ step-linear p r z false b h lz)
     ∙ ap (divide p (xorBits (step p r false) (step p z b))) (sym (xorBits-zeros (length p) z lz))
     ∙ divide-linear p (step p r false) (step p z b) z z (length-step p r false h) (length-step p z b lz) refl
     ∙ ap₂ xorBits (divide-slide p r (length p)) (lowest p n b refl)

@@ -3,7 +3,7 @@ use mathlib.Core.Path.{_≡_, refl, sym, ap, ap₂, subst, _∙_}
 use Prim.Native.Nat.{ℕ, zero, suc, _+_, _/_, _%_, _^_, _<_}
 use native.Mathlib.Nat.{mod-lt, add-zero, zero-add, suc-add, add-suc, add-comm, div-eq-of-lt, not-suc-le-zero, le-of-suc-le-suc}
 use native.Mathlib.Omega.{arith}
-use mathlib.Core.Bool.{Bool, true, false}
+use mathlib.Core.Bool.{Bool, false}
 use mathlib.Core.List.{List, [], _∷_, _++_, append-assoc, append-nil}
 use lib.Bits.{bitXor, xor-lt}
 use lib.Dec.{lit<}
@@ -11,11 +11,11 @@ use lib.ListN.{length, getD, length-append, length-replicate}
 use lib.Pow.{shr-lt, shr-le}
 use Rattle.bits.specs.Strings.{xorBits, zeros}
 use Rattle.bits.specs.Bytes.{lowBits, bitsOf}
-use Rattle.bits.proofs.Strings.{length-zeros, length-xor, xorBits-comm, xorBits-zeros, xorBits-cancel, xorBits-append}
+use Rattle.bits.proofs.Strings.{xor-self, length-zeros, length-xor, xorBits-comm, xorBits-zeros, xorBits-cancel, xorBits-append}
 use Rattle.bits.proofs.Bytes.{length-lowBits, lowBits-append, lowBits-mod, lowBits-zero, lowBits-xor, lowBits-value, value-lt}
-use Rattle.division.specs.Division.{divide}
+use Rattle.division.specs.Division.{step, divide}
 use Rattle.division.proofs.Linear.{length-divide}
-use Rattle.registers.specs.Register.{enterBit, enter, tabulate, entry, tableOf, enterByTable, enterAllByTable}
+use Rattle.registers.specs.Register.{enter, tabulate, entry, tableOf, enterByTable, enterAllByTable}
 use Rattle.registers.specs.Laws.{TableEnters}
 use Rattle.registers.proofs.Enter.{enter-append, enter-linear, enter-zeros}
 
@@ -26,12 +26,8 @@ pub enter-self : (p m s : List Bool) → enter p (m ++ s) m ≡ s ++ zeros (leng
 unfolding enter
 enter-self p [] s = sym (append-nil s)
 enter-self p (b ∷ m) s =
-    ap (λ z. enter p z m) (meet b ∙ append-assoc m s (false ∷ []))
+    ap (λ z. enter p z m) (ap (λ x. step p (x ∷ (m ++ s)) false) (xor-self b) ∙ append-assoc m s (false ∷ []))
     ∙ enter-self p m (s ++ false ∷ []) ∙ append-assoc s (false ∷ []) (zeros (length m))
-  where
-    meet : (x : Bool) → enterBit p (x ∷ (m ++ s)) x ≡ (m ++ s) ++ false ∷ []
-    meet true = refl
-    meet false = refl
 
 -- what the register's first bits and the bits give, and the rest of the register, moved
 enter-group : (p lo hi m : List Bool) → length lo ≡ length m → length lo + length hi ≡ length p

@@ -1,17 +1,17 @@
 -- The register of a check as code holds it: bits enter at its high end, a byte at a time through a table. Assumes nothing.
 use Prim.Native.Nat.{ℕ, zero, suc, _/_, _%_}
-use mathlib.Core.Bool.{Bool, false}
+use mathlib.Core.Bool.{Bool, false, xor}
 use mathlib.Core.List.{List, [], _∷_}
 use lib.Bits.{bitXor}
 use lib.ListN.{length, getD}
-use Rattle.bits.specs.Strings.{add, zeros}
+use Rattle.bits.specs.Strings.{zeros}
 use Rattle.bits.specs.Bytes.{lowBits, value}
 use Rattle.division.specs.Division.{step, divide}
 
 -- one bit: it is added to the bit that leaves the register, which then decides whether the generator is subtracted
 abbrev pub enterBit : List Bool → List Bool → Bool → List Bool
 enterBit p [] b = []
-enterBit p (t ∷ r) b = step p (add t b ∷ r) false
+enterBit p (t ∷ r) b = step p (xor t b ∷ r) false
 
 -- the register after all the bits
 unfoldable pub enter : List Bool → List Bool → List Bool → List Bool

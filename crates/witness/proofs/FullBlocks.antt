@@ -3,6 +3,7 @@
 use mathlib.Core.Path.{_≡_, refl, ap, _∙_}
 use Prim.Native.Nat.{ℕ, zero, suc, _<_}
 use native.Mathlib.Omega.{arith}
+use mathlib.Core.Bool.{xor}
 use mathlib.Core.List.{List, [], _∷_, _++_}
 use lib.ListN.{length, getD, replicate}
 use Rattle.bits.specs.Bytes.{lowBits, bitsOf, Bytes}
@@ -57,7 +58,7 @@ pub longest-count : length (counted marks first) ≡ 4096
 longest-count = refl
 
 right-first : CheckRight method.Cyclic Even marks first
-unfolding lowBits bitsOf checkOf checkBits formula method3 divide remainder ccitt16
+unfolding lowBits bitsOf checkOf checkBits formula method3 divide remainder ccitt16 xor
 right-first = refl
 
 abbrev found-first : Found method.Cyclic Even first
@@ -81,7 +82,7 @@ same-framing =
 
 -- the two checked bits in which they differ
 pub differ-apart : differingChecked (blocks method.Cyclic Even) first second ≡ 1 ∷ 32768 ∷ []
-unfolding lowBits bitsOf signOf character framed checkedBits
+unfolding lowBits bitsOf signOf character framed checkedBits xor
 differ-apart = refl
 
 pub full-pair : TwoAccepted (blocks method.Cyclic Even) first second

@@ -3,11 +3,11 @@
 use mathlib.Core.Path.{_≡_, refl, sym, ap, ap₂, _∙_}
 use Prim.Native.Nat.{ℕ, _+_, _/_, _%_}
 use native.Mathlib.Omega.{arith}
-use mathlib.Core.Bool.{Bool, true, false}
+use mathlib.Core.Bool.{Bool, true, false, xor}
 use mathlib.Core.List.{List, [], _∷_, _++_, append-assoc, append-nil}
 use lib.Dec.{eqb}
 use lib.ListN.{length, length-append}
-use Rattle.bits.specs.Strings.{add, xorBits, zeros}
+use Rattle.bits.specs.Strings.{xorBits, zeros}
 use Rattle.bits.specs.Bytes.{lowBits, bitsOf}
 use Rattle.bits.proofs.Strings.{length-xor, xorBits-comm, xorBits-assoc, xorBits-zeros, xorBits-append}
 use Rattle.bits.proofs.Bytes.{length-lowBits, lowBits-append}
@@ -42,7 +42,7 @@ one-more-sums (b ∷ x) = go (one-more-byte b) (one-more-sums x)
   where
     go : OneMore (lowBits 7 b) (lowBits 8 b) → OneMore (columnSums x) (allSums x) → OneMore (columnSums (b ∷ x)) (allSums (b ∷ x))
     go (s, e) (t, f) =
-        (add s t, ap₂ xorBits e f ∙ xorBits-append (lowBits 7 b) (columnSums x) (s ∷ []) (t ∷ []) (length-lowBits 7 b ∙ sym (length-sums x)))
+        (xor s t, ap₂ xorBits e f ∙ xorBits-append (lowBits 7 b) (columnSums x) (s ∷ []) (t ∷ []) (length-lowBits 7 b ∙ sym (length-sums x)))
 
 -- ---- they are the remainder by x^8 + 1
 
@@ -50,6 +50,7 @@ abbrev pub divisor : List Bool
 divisor = coefficients 8 (0 ∷ [])
 
 step-rotates : (h : Bool) (t : List Bool) → length t ≡ 7 → step divisor (h ∷ t) false ≡ t ++ h ∷ []
+unfolding xor
 step-rotates false t e = refl
 step-rotates true t e = xorBits-append (zeros 7) t (true ∷ []) (false ∷ []) (sym e) ∙ ap (λ z. z ++ true ∷ []) (xorBits-zeros 7 t e)
 

@@ -3,13 +3,13 @@
 use mathlib.Core.Path.{_≡_, refl, sym, ap, ap₂, _∙_}
 use Prim.Native.Nat.{ℕ, zero, suc, _+_, _-_, _%_, _≤_}
 use native.Mathlib.Omega.{arith}
-use mathlib.Core.Bool.{Bool, true, false}
+use mathlib.Core.Bool.{Bool, true, false, xor, cond}
 use mathlib.Core.List.{List, [], _∷_, _++_}
 use lib.ListN.{length, length-append, length-replicate}
-use Rattle.bits.specs.Strings.{add, xorBits, zeros, weight, parity}
-use Rattle.bits.specs.Bytes.{lowBits, bitsOf, digit}
+use Rattle.bits.specs.Strings.{xorBits, zeros, weight, parity}
+use Rattle.bits.specs.Bytes.{lowBits, bitsOf}
 use Rattle.bits.specs.Differences.{Burst, differing}
-use Rattle.bits.proofs.Strings.{length-xor, xorBits-comm, xorBits-self, xorBits-injective, equal-of-xor, weight-append, weight-zeros, weight-zero, weight-parity, parity-snoc, parity-xor}
+use Rattle.bits.proofs.Strings.{xor-self, xor-cancel, length-xor, xorBits-comm, xorBits-self, xorBits-injective, equal-of-xor, weight-append, weight-zeros, weight-zero, weight-parity, parity-snoc, parity-xor}
 use Rattle.bits.proofs.Bytes.{length-lowBits, length-bitsOf, bitsOf-xor}
 use Rattle.bits.proofs.Differences.{burst-window}
 use Rattle.division.specs.Division.{divide, remainder, Divides}
@@ -60,16 +60,11 @@ no-distance a b e =
     ap (λ z. weight (xorBits (lowBits 8 a) z)) (sym e) ∙ ap weight (xorBits-self (lowBits 8 a)) ∙ weight-zeros (length (lowBits 8 a))
 
 -- two bytes of one parity differ in an even number of bits
-even-sum : (s t : Bool) → s ≡ t → digit (add s t) ≡ 0
-even-sum true true e = refl
-even-sum true false e = ap digit e
-even-sum false true e = ap digit (sym e)
-even-sum false false e = refl
-
 even-byte : (a b : ℕ) → parity (lowBits 8 a) ≡ parity (lowBits 8 b) → byteDistance a b % 2 ≡ 0
 even-byte a b e =
-    weight-parity (xorBits (lowBits 8 a) (lowBits 8 b)) ∙ ap digit (parity-xor (lowBits 8 a) (lowBits 8 b) (one-length a b))
-    ∙ even-sum (parity (lowBits 8 a)) (parity (lowBits 8 b)) e
+    let s = parity (lowBits 8 b) in
+    weight-parity (xorBits (lowBits 8 a) (lowBits 8 b))
+    ∙ ap (λ t. cond t 1 0) (parity-xor (lowBits 8 a) (lowBits 8 b) (one-length a b) ∙ ap (λ t. xor t s) e ∙ xor-self s)
 
 -- so unequal ones in at least two
 pub at-least-two : {x y : List ℕ} → EqualParities x y → (bitsOf x ≡ bitsOf y → ⊥) → 2 ≤ distanceOf x y
@@ -83,23 +78,15 @@ at-least-two (one-byte {x} {y} a b e h) n = go (byteDistance a b) refl (at-least
 
 -- ---- all eight columns have one sum: the parity gives the eighth
 
-add-cancel : (a b c : Bool) → add a c ≡ add b c → a ≡ b
-add-cancel true true c e = refl
-add-cancel true false true e = sym e
-add-cancel true false false e = e
-add-cancel false true true e = sym e
-add-cancel false true false e = e
-add-cancel false false c e = refl
-
 by-parity : (u v : List Bool) (s t : Bool) → u ≡ v → parity (u ++ s ∷ []) ≡ parity (v ++ t ∷ []) → u ++ s ∷ [] ≡ v ++ t ∷ []
 by-parity u v s t e h =
-    ap₂ (λ a b. a ++ b ∷ []) e
-    (add-cancel s t (parity v) (ap (λ z. add s (parity z)) (sym e) ∙ sym (parity-snoc u s) ∙ h ∙ parity-snoc v t))
+    let one : xor s (parity v) ≡ xor t (parity v) = ap (λ z. xor s (parity z)) (sym e) ∙ sym (parity-snoc u s) ∙ h ∙ parity-snoc v t in
+    ap₂ (λ a b. a ++ b ∷ []) e (sym (xor-cancel s (parity v)) ∙ ap (λ z. xor z (parity v)) one ∙ xor-cancel t (parity v))
 
 parity-all : {x y : List ℕ} → EqualParities x y → parity (allSums x) ≡ parity (allSums y)
 parity-all no-byte = refl
 parity-all (one-byte {x} {y} a b e h) =
-    parity-xor (lowBits 8 a) (allSums x) (length-lowBits 8 a ∙ sym (length-all x)) ∙ ap₂ add e (parity-all h)
+    parity-xor (lowBits 8 a) (allSums x) (length-lowBits 8 a ∙ sym (length-all x)) ∙ ap₂ xor e (parity-all h)
     ∙ sym (parity-xor (lowBits 8 b) (allSums y) (length-lowBits 8 b ∙ sym (length-all y)))
 
 all-equal : {x y : List ℕ} → EqualParities x y → columnSums x ≡ columnSums y → allSums x ≡ allSums y

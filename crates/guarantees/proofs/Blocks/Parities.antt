@@ -2,10 +2,10 @@
 use mathlib.Core.Path.{_≡_, refl, sym, ap, ap₂, _∙_}
 use Prim.Native.Nat.{ℕ, zero, suc, _*_, _≤_}
 use native.Mathlib.Omega.{arith}
-use mathlib.Core.Bool.{Bool, true, false}
+use mathlib.Core.Bool.{Bool, true, false, xor}
 use mathlib.Core.List.{List, [], _∷_, _++_}
 use lib.ListN.{length, drop, length-drop}
-use Rattle.bits.specs.Strings.{add, xorBits, zeros, weight, parity}
+use Rattle.bits.specs.Strings.{xorBits, zeros, weight, parity}
 use Rattle.bits.specs.Bytes.{lowBits, bitsOf}
 use Rattle.bits.specs.Differences.{consIf}
 use Rattle.bits.proofs.Strings.{append-split, xorBits-comm, xorBits-assoc, xorBits-zeros, xorBits-self}
@@ -80,7 +80,7 @@ sums-zero p c [] l e = absurd (omega arith)
 sums-zero p c (b ∷ []) l e =
     let t = one-more-byte b in
     let q : lowBits 7 b ≡ columnSums c =
-    append-split (lowBits 7 b) (columnSums c) (t .0 ∷ []) (add (isOdd p) (parity (columnSums c)) ∷ [])
+    append-split (lowBits 7 b) (columnSums c) (t .0 ∷ []) (xor (isOdd p) (parity (columnSums c)) ∷ [])
     (length-lowBits 7 b ∙ sym (length-sums c))
     (sym (t .1) ∙ sym (bitsOf-one b) ∙ e) .0 in
     sums-append c (b ∷ []) ∙ ap (xorBits (columnSums c)) (sums-one b ∙ q) ∙ xorBits-self (columnSums c) ∙ ap zeros (length-sums c)

@@ -3,11 +3,12 @@
 use mathlib.Core.Path.{_≡_, refl, sym, ap, ap₂, _∙_}
 use Prim.Native.Nat.{ℕ, zero, suc}
 use native.Mathlib.Omega.{arith}
-use mathlib.Core.Bool.{Bool, true, false}
+use mathlib.Core.Bool.{Bool, true, false, xor}
 use mathlib.Core.List.{List, [], _∷_, _++_, head-eq-of-cons-eq, tail-eq-of-cons-eq}
 use lib.ListN.{length}
-use Rattle.bits.specs.Strings.{add, xorBits, zeros, ones, weight}
+use Rattle.bits.specs.Strings.{xorBits, zeros, ones, weight}
 use Rattle.bits.specs.Differences.{consIf, setFrom}
+use Rattle.bits.proofs.Strings.{xor-self}
 use Rattle.bits.proofs.Differences.{length-differing}
 use Rattle.guarantees.specs.Lines.{Lines, SameFraming, chosen, DifferWhereChecked, EqualWhereChecked}
 
@@ -67,14 +68,10 @@ select-inside (suc n) (a ∷ x) e = ap (λ s. a ∷ s) (select-inside n x (omega
 
 -- ---- where two such strings differ
 
-add-self : (a : Bool) → add a a ≡ false
-add-self true = refl
-add-self false = refl
-
 pub differ-inside : {ms x y : List Bool} (n : ℕ) → Agree ms x y → setFrom n (xorBits x y) ≡ chosen (xorBits (select ms x) (select ms y)) (setFrom n ms)
 differ-inside n nothing = refl
-differ-inside n (inside a b g) = ap (consIf (add a b) n) (differ-inside (suc n) g)
-differ-inside n (outside {ms} {x} {y} a g) = ap (λ t. consIf t n (setFrom (suc n) (xorBits x y))) (add-self a) ∙ differ-inside (suc n) g
+differ-inside n (inside a b g) = ap (consIf (xor a b) n) (differ-inside (suc n) g)
+differ-inside n (outside {ms} {x} {y} a g) = ap (λ t. consIf t n (setFrom (suc n) (xorBits x y))) (xor-self a) ∙ differ-inside (suc n) g
 
 weight-cons : (t : Bool) (s u : List Bool) → weight s ≡ weight u → weight (t ∷ s) ≡ weight (t ∷ u)
 weight-cons true s u e = ap suc e
@@ -82,8 +79,8 @@ weight-cons false s u e = e
 
 pub weight-inside : {ms x y : List Bool} → Agree ms x y → weight (xorBits x y) ≡ weight (xorBits (select ms x) (select ms y))
 weight-inside nothing = refl
-weight-inside (inside {ms} {x} {y} a b g) = weight-cons (add a b) (xorBits x y) (xorBits (select ms x) (select ms y)) (weight-inside g)
-weight-inside (outside {ms} {x} {y} a g) = ap (λ t. weight (t ∷ xorBits x y)) (add-self a) ∙ weight-inside g
+weight-inside (inside {ms} {x} {y} a b g) = weight-cons (xor a b) (xorBits x y) (xorBits (select ms x) (select ms y)) (weight-inside g)
+weight-inside (outside {ms} {x} {y} a g) = ap (λ t. weight (t ∷ xorBits x y)) (xor-self a) ∙ weight-inside g
 
 pub equal-inside : {ms x y : List Bool} → Agree ms x y → select ms x ≡ select ms y → x ≡ y
 equal-inside nothing e = refl

@@ -3,7 +3,7 @@
 use mathlib.Core.Path.{_≡_, refl, sym}
 use Prim.Native.Nat.{ℕ, _%_, _<_}
 use native.Mathlib.Omega.{arith}
-use mathlib.Core.Bool.{Bool, true, false, Bool·beq, cond, not, _||_, true≢false}
+use mathlib.Core.Bool.{Bool, true, false, Bool·beq, cond, not, _||_, true≢false, xor}
 use mathlib.Core.List.{List, [], _∷_}
 use lib.Dec.{T, eqb}
 use borrow.Author.Tests.{eqb-true, lt-ltb}
@@ -25,7 +25,7 @@ abbrev isResent : Parity → ℕ → Bool
 isResent p b = not (Bool·beq (parity (lowBits 8 b)) (isOdd p)) || eqb (withParity p (b % 128)) b
 
 all-resent : (p : Parity) → T (all (isResent p) 256)
-unfolding lowBits withParity
+unfolding lowBits withParity xor
 all-resent Even = tt
 all-resent Odd = tt
 

@@ -3,11 +3,11 @@
 use mathlib.Core.Path.{_≡_, refl, ap, _∙_}
 use Prim.Native.Nat.{ℕ, _+_, _%_}
 use native.Mathlib.Omega.{arith}
-use mathlib.Core.Bool.{Bool, true, false, Bool·beq, cond}
+use mathlib.Core.Bool.{Bool, true, false, Bool·beq, cond, xor}
 use mathlib.Core.List.{List, [], _∷_, _++_, map}
-use Rattle.bits.specs.Strings.{add, parity}
+use Rattle.bits.specs.Strings.{parity}
 use Rattle.bits.specs.Bytes.{lowBits, pack, packInto}
-use Rattle.bits.proofs.Strings.{parity-snoc}
+use Rattle.bits.proofs.Strings.{xor-cancel, parity-snoc}
 use Rattle.bits.proofs.Packing.{pack-lowBits}
 use Rattle.block.specs.declared.Method.{Method}
 use Rattle.block.specs.declared.Method.the-variants as method
@@ -18,19 +18,17 @@ use Rattle.block.specs.Read.{Framed, askParities}
 use Rattle.block.proofs.CheckLaws.{withParity-bits, withParity-lt, matrix-character}
 
 module _ (p : Parity) where
-  added-twice : (odd x : Bool) → Bool·beq (add (add odd x) x) odd ≡ true
-  added-twice true true = refl
-  added-twice true false = refl
-  added-twice false true = refl
-  added-twice false false = refl
+  beq-self : (x : Bool) → Bool·beq x x ≡ true
+  beq-self true = refl
+  beq-self false = refl
 
   right-character : (c : ℕ) → parityRight p (withParity p c) ≡ true
   unfolding parityRight
   right-character c =
       let s = lowBits 7 c in
       ap (λ z. Bool·beq (parity z) (isOdd p)) (withParity-bits p c)
-      ∙ ap (λ t. Bool·beq t (isOdd p)) (parity-snoc s (add (isOdd p) (parity s)))
-      ∙ added-twice (isOdd p) (parity s)
+      ∙ ap (λ t. Bool·beq t (isOdd p)) (parity-snoc s (xor (isOdd p) (parity s)) ∙ xor-cancel (isOdd p) (parity s))
+      ∙ beq-self (isOdd p)
 
   sent-parities : (cs rest : List ℕ) (at : ℕ) (next : Framed) → ((n : ℕ) → askParities p rest n next ≡ next)
       → askParities p (map (sent true p) cs ++ rest) at next ≡ next

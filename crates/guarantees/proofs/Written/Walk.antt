@@ -14,9 +14,10 @@ use Rattle.block.specs.declared.Field.{Field}
 use Rattle.block.specs.declared.Field.the-variants.{Clear, ClearDle}
 use Rattle.block.specs.declared.Judged.the-variants.{Is, Ends}
 use Rattle.block.specs.Signs.{Sign, soh, stx, etx, dle, syn, etb, us, other, signOf, SOH, STX, ETX, DLE, SYN, ETB, US}
-use Rattle.block.specs.Characters.{character, withParity, sent}
+use Rattle.block.specs.Characters.{character, sent}
 use Rattle.block.specs.Walk.{ended, ahead, onward, judge, inClear, walk}
 use Rattle.block.specs.Write.{isOther, isFree}
+use Rattle.block.proofs.CheckLaws.{withParity-mod}
 use Rattle.guarantees.proofs.Writing.{Free}
 
 -- a character that is sent, and the mark that it is to have
@@ -53,8 +54,8 @@ Back seven p c = character seven (sent seven p c) ≡ c
 
 -- a sign or other character of seven bits
 pub low-back : (seven : Bool) (p : Parity) (c : ℕ) → c < 128 → Back seven p c
-unfolding character sent withParity
-low-back true p c h = omega arith
+unfolding character sent
+low-back true p c h = omega (arith, withParity-mod p c)
 low-back false p c h = refl
 
 -- every byte of methods 3 and 4
