@@ -42,29 +42,22 @@ pub struct Form {
 
 // SAFETY of every call below: each pointer goes with the length of its own
 // slice, outputs and answers are lent for writing, and none overlap.
-impl Calls {
-    #[inline(always)]
-    pub fn read_block(
-        &self,
-        method: u8,
-        parity: u8,
-        line: &[u8],
-        out: &mut [u8],
-        answer: &mut [usize; 5],
-    ) -> u32 {
-        let (line, length) = (line.as_ptr(), line.len());
-        unsafe {
-            (self.read_block)(
-                method,
-                parity,
-                line,
-                length,
-                out.as_mut_ptr(),
-                out.len(),
-                answer.as_mut_ptr(),
-            )
+
+/// A call by codes and slices.
+macro_rules! by_slices {
+    ($name:ident($($code:ident: $kind:ty),*; $lent:ident) $answer:ty) => {
+        #[inline(always)]
+        pub fn $name(&self, $($code: $kind,)* $lent: &[u8], out: &mut [u8], answer: &mut $answer) -> u32 {
+            let answer = std::ptr::from_mut(answer).cast();
+            unsafe { (self.$name)($($code,)* $lent.as_ptr(), $lent.len(), out.as_mut_ptr(), out.len(), answer) }
         }
-    }
+    };
+}
+
+impl Calls {
+    by_slices! { read_block(method: u8, parity: u8; line) [usize; 5] }
+    by_slices! { read_frame(method: u8, bits: usize; lent) usize }
+    by_slices! { write_frame(method: u8; content) usize }
 
     #[inline(always)]
     pub fn write_block(&self, form: &Form, out: &mut [u8], value: &mut usize) -> u32 {
@@ -91,48 +84,6 @@ impl Calls {
                 text_length,
                 out,
                 room,
-                value,
-            )
-        }
-    }
-
-    #[inline(always)]
-    pub fn read_frame(
-        &self,
-        method: u8,
-        bits: usize,
-        lent: &[u8],
-        out: &mut [u8],
-        value: &mut usize,
-    ) -> u32 {
-        unsafe {
-            (self.read_frame)(
-                method,
-                bits,
-                lent.as_ptr(),
-                lent.len(),
-                out.as_mut_ptr(),
-                out.len(),
-                value,
-            )
-        }
-    }
-
-    #[inline(always)]
-    pub fn write_frame(
-        &self,
-        method: u8,
-        content: &[u8],
-        out: &mut [u8],
-        value: &mut usize,
-    ) -> u32 {
-        unsafe {
-            (self.write_frame)(
-                method,
-                content.as_ptr(),
-                content.len(),
-                out.as_mut_ptr(),
-                out.len(),
                 value,
             )
         }

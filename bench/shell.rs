@@ -5,14 +5,20 @@ use crate::peer::Refusal;
 use crate::peer_fast::{self, Parts};
 use std::slice;
 
-/// Number and value of an answer that has one value.
-unsafe fn answered(answer: Result<usize, Refusal>, value: *mut usize) -> u32 {
-    let (number, told) = match answer {
-        Ok(told) => (0, told),
-        Err(Refusal { number, value }) => (number, value),
-    };
-    *value = told;
-    number
+/// Number and values of an answer; a refusal's value is the first.
+unsafe fn answered<const N: usize>(answer: Result<[usize; N], Refusal>, values: *mut usize) -> u32 {
+    let values = slice::from_raw_parts_mut(values, N);
+    match answer {
+        Ok(told) => {
+            values.copy_from_slice(&told);
+            0
+        }
+        Err(Refusal { number, value }) => {
+            values.fill(0);
+            values[0] = value;
+            number
+        }
+    }
 }
 
 fn link(method: u8, parity: u8) -> Option<Link> {
@@ -25,96 +31,52 @@ const UNKNOWN_CODE: Refusal = Refusal {
     value: 0,
 };
 
-pub unsafe extern "C" fn read_block(
-    method: u8,
-    parity: u8,
-    line: *const u8,
-    line_length: usize,
-    out: *mut u8,
-    out_length: usize,
-    answer: *mut usize,
-) -> u32 {
-    let line = slice::from_raw_parts(line, line_length);
-    let out = slice::from_raw_parts_mut(out, out_length);
-    let answer = slice::from_raw_parts_mut(answer, 5);
-    let read = match link(method, parity) {
+/// A call of the interface: codes, then slices with their lengths, the last of
+/// them the output, then the values of the answer.
+macro_rules! call {
+    ($name:ident($($code:ident: $kind:ty),*; $($lent:ident[$length:ident]),*; $out:ident[$room:ident]) $answer:expr) => {
+        pub unsafe extern "C" fn $name(
+            $($code: $kind,)*
+            $($lent: *const u8, $length: usize,)*
+            $out: *mut u8, $room: usize,
+            values: *mut usize,
+        ) -> u32 {
+            $(let $lent = slice::from_raw_parts($lent, $length);)*
+            let $out = slice::from_raw_parts_mut($out, $room);
+            answered($answer, values)
+        }
+    };
+}
+
+call! { read_block(method: u8, parity: u8; line[line_length]; out[room])
+    match link(method, parity) {
         Some(link) => peer_fast::read_block(link, line, out),
         None => Err(UNKNOWN_CODE),
-    };
-    let (number, values) = match read {
-        Ok(values) => (0, values),
-        Err(refusal) => (refusal.number, [refusal.value, 0, 0, 0, 0]),
-    };
-    answer.copy_from_slice(&values);
-    number
+    }
 }
 
-pub unsafe extern "C" fn write_block(
-    method: u8,
-    parity: u8,
-    shape: u8,
-    end_sign: u8,
-    header: *const u8,
-    header_length: usize,
-    text: *const u8,
-    text_length: usize,
-    out: *mut u8,
-    out_length: usize,
-    value: *mut usize,
-) -> u32 {
-    let header = slice::from_raw_parts(header, header_length);
-    let text = slice::from_raw_parts(text, text_length);
-    let out = slice::from_raw_parts_mut(out, out_length);
-    let shape = SHAPES.get(usize::from(shape).wrapping_sub(1));
-    let written = match (link(method, parity), shape) {
+call! { write_block(method: u8, parity: u8, shape: u8, end_sign: u8; header[header_length], text[text_length]; out[room])
+    match (link(method, parity), SHAPES.get(usize::from(shape).wrapping_sub(1))) {
         (Some(link), Some(&shape)) if ENDS.contains(&end_sign) => {
-            let parts = Parts {
-                link,
-                shape,
-                end_sign,
-                header,
-                text,
-            };
-            peer_fast::write_block(&parts, out)
+            let parts = Parts { link, shape, end_sign, header, text };
+            peer_fast::write_block(&parts, out).map(|length| [length])
         }
         _ => Err(UNKNOWN_CODE),
-    };
-    answered(written, value)
+    }
 }
 
-pub unsafe extern "C" fn read_frame(
-    method: u8,
-    bits: usize,
-    lent: *const u8,
-    lent_length: usize,
-    out: *mut u8,
-    out_length: usize,
-    value: *mut usize,
-) -> u32 {
-    let lent = slice::from_raw_parts(lent, lent_length);
-    let out = slice::from_raw_parts_mut(out, out_length);
-    let read = match method {
-        5 | 6 => peer_fast::read_frame(method, bits, lent, out),
+call! { read_frame(method: u8, bits: usize; lent[lent_length]; out[room])
+    match method {
+        5 | 6 => peer_fast::read_frame(method, bits, lent, out).map(|length| [length]),
         _ => Err(UNKNOWN_CODE),
-    };
-    answered(read, value)
+    }
 }
 
-pub unsafe extern "C" fn write_frame(
-    method: u8,
-    content: *const u8,
-    content_length: usize,
-    out: *mut u8,
-    out_length: usize,
-    value: *mut usize,
-) -> u32 {
-    let content = slice::from_raw_parts(content, content_length);
-    let out = slice::from_raw_parts_mut(out, out_length);
-    let written = match method {
-        5 | 6 => peer_fast::write_frame(method, content, out),
+call! { write_frame(method: u8; content[content_length]; out[room])
+    match method {
+        5 | 6 => peer_fast::write_frame(method, content, out).map(|bits| [bits]),
         _ => Err(UNKNOWN_CODE),
-    };
-    answered(written, value)
+    }
 }
 
 pub unsafe extern "C" fn receive(n: u8, c: u8, number: u8, answer: *mut u8) -> u32 {

@@ -114,13 +114,7 @@ fn copy_clear(part: Part, line: &[u8], out: &mut [u8]) {
 pub fn write(parts: &Parts, out: &mut [u8]) -> Result<usize, Refusal> {
     ask_parts(parts)?;
     let clear = parts.shape.text == Text::Clear;
-    let (start, inner_start): (&[u8], &[u8]) = match (parts.shape.header, parts.shape.text) {
-        (true, Text::Absent) => (&[SOH], &[]),
-        (true, Text::Plain) => (&[SOH], &[STX]),
-        (true, Text::Clear) => (&[SOH], &[DLE, STX]),
-        (false, Text::Clear) => (&[DLE, STX], &[]),
-        (false, _) => (&[STX], &[]),
-    };
+    let (start, inner_start) = parts.shape.starts();
     let counted = parts.header.len() + inner_start.len() + parts.text.len() + 1;
     ask(counted <= LONGEST_COUNT, Refusal::plain(5))?;
     let doubled = if clear {

@@ -3,7 +3,7 @@
 
 use crate::corridor::codes;
 use crate::frames;
-use crate::judge::{differ, hex, Form, Judge, Room, Settings};
+use crate::judge::{differ, hex, Judge, Room, Settings};
 use crate::lines::{self, Fill};
 use crate::peer::block::{self, Parts};
 use crate::random::Random;
@@ -58,24 +58,8 @@ fn block_round(judge: &mut Judge, random: &mut Random, longest: usize) {
 /// Property 2 by the library alone: the parts are written, and reading that
 /// line or the one with fill signs gives the parts.
 fn round_trip(judge: &mut Judge, parts: &Parts, filled: &[u8]) {
-    let Form {
-        settings,
-        shape,
-        end_sign,
-        header,
-        text,
-    } = form(parts);
-    let link = (settings.method, settings.parity);
-    let mut line = vec![0; filled.len()];
-    let mut length = 0;
-    let written = codes::write_block(
-        link,
-        (shape, end_sign),
-        header,
-        text,
-        &mut line,
-        &mut length,
-    );
+    let (mut line, mut length) = (vec![0; filled.len()], 0);
+    let written = form(parts).write(&mut line, &mut length);
     if written != 0 {
         differ(
             "round trip",
@@ -92,21 +76,15 @@ fn round_trip(judge: &mut Judge, parts: &Parts, filled: &[u8]) {
 /// Fails unless the library reads the parts from a line.
 fn read_back(parts: &Parts, line: &[u8]) {
     let both = [&parts.header[..], &parts.text].concat();
-    let Form {
-        settings,
-        shape,
-        end_sign,
-        header,
-        text,
-    } = form(parts);
+    let form = form(parts);
     let (mut out, mut answer) = (vec![0; both.len()], [0; 5]);
-    let Settings { method, parity } = settings;
+    let Settings { method, parity } = form.settings;
     let read = codes::read_block(method, parity, line, &mut out, &mut answer);
     let wanted = [
-        usize::from(shape),
-        usize::from(end_sign),
-        header.len(),
-        text.len(),
+        usize::from(form.shape),
+        usize::from(form.end_sign),
+        form.header.len(),
+        form.text.len(),
     ];
     if read != 0 || answer[..4] != wanted || out != both {
         let got = format!("{read} {answer:?} {}", hex(&out));

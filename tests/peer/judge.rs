@@ -47,6 +47,15 @@ pub struct Form<'a> {
     pub text: &'a [u8],
 }
 
+impl Form<'_> {
+    /// The library writes the block.
+    pub fn write(self, out: &mut [u8], value: &mut usize) -> u32 {
+        let link = (self.settings.method, self.settings.parity);
+        let form = (self.shape, self.end_sign);
+        codes::write_block(link, form, self.header, self.text, out, value)
+    }
+}
+
 impl Judge {
     pub fn new() -> Judge {
         Judge {
@@ -87,9 +96,7 @@ impl Judge {
         let (expected, mut out) = lend(expected::write_block(form), room, usual);
         let mut value = BEFORE;
         let lent = out.len() - GUARD;
-        let link = (settings.method, settings.parity);
-        let output = &mut out[..lent];
-        let number = codes::write_block(link, (shape, end_sign), header, text, output, &mut value);
+        let number = form.write(&mut out[..lent], &mut value);
         same("write_block", &expected, number, &[value], &out, &input);
         self.tally.note(Call::WriteBlock, number, settings.method);
         if self.typed_too() {

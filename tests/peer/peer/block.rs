@@ -3,7 +3,7 @@
 use super::bits;
 use super::division::{APPENDIX_1, APPENDIX_3};
 use super::grammar::{walk, Walked};
-use super::signs::{Link, Shape, Text, DLE, RESERVED, SOH, STX};
+use super::signs::{Link, Shape, Text, DLE, RESERVED};
 use super::{ask, Refusal};
 
 /// The most bytes of a line that is read.
@@ -26,13 +26,7 @@ pub struct Parts {
 pub fn write(parts: &Parts) -> Result<Vec<u8>, Refusal> {
     ask_parts(parts)?;
     let clear = parts.shape.text == Text::Clear;
-    let (start, inner_start): (&[u8], &[u8]) = match (parts.shape.header, parts.shape.text) {
-        (true, Text::Absent) => (&[SOH], &[]),
-        (true, Text::Plain) => (&[SOH], &[STX]),
-        (true, Text::Clear) => (&[SOH], &[DLE, STX]),
-        (false, Text::Clear) => (&[DLE, STX], &[]),
-        (false, _) => (&[STX], &[]),
-    };
+    let (start, inner_start) = parts.shape.starts();
     let end = [parts.end_sign];
     let counted = [&parts.header, inner_start, &parts.text, &end].concat();
     ask(counted.len() <= LONGEST_COUNT, Refusal::plain(5))?;

@@ -98,6 +98,18 @@ pub const SHAPES: [Shape; 5] = [
 ];
 
 impl Shape {
+    /// The signs before the header or, without one, before the text, and those
+    /// between the two.
+    pub fn starts(self) -> (&'static [u8], &'static [u8]) {
+        match (self.header, self.text) {
+            (true, Text::Absent) => (&[SOH], &[]),
+            (true, Text::Plain) => (&[SOH], &[STX]),
+            (true, Text::Clear) => (&[SOH], &[DLE, STX]),
+            (false, Text::Clear) => (&[DLE, STX], &[]),
+            (false, _) => (&[STX], &[]),
+        }
+    }
+
     /// The shape's number, 1 to 5.
     pub fn number(self) -> usize {
         let place = SHAPES.iter().position(|shape| *shape == self);
