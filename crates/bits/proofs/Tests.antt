@@ -2,7 +2,7 @@
 use mathlib.Core.Path.{_≡_, refl, sym, subst}
 use Prim.Native.Nat.{ℕ, zero, suc, _<_}
 use native.Mathlib.Omega.{arith}
-use mathlib.Core.Bool.{Bool, true, false, _&&_}
+use mathlib.Core.Bool.{Bool, true, false, _&&_, cond}
 use borrow.Author.Tests.{eqb-true, eqb-false}
 use lib.Dec.{T, eqb}
 
@@ -26,3 +26,11 @@ every-at (suc n) f t k h = go (eqb k n) refl (every-at n f (both-true (f n) (eve
 pub T-true : (b : Bool) → T b → b ≡ true
 T-true true t = refl
 T-true false t = absurd t
+
+-- ---- questions
+
+-- a question that was passed: where the answer is none of its refusal, it holds, and the answer is the next one's
+pub ask-passed : {A : Type 0} (holds : Bool) {next refusal answer : A} → (refusal ≡ answer → ⊥) → cond holds next refusal ≡ answer
+    → (holds ≡ true) × (next ≡ answer)
+ask-passed true apart e = (refl, e)
+ask-passed false apart e = absurd (apart e)

@@ -7,6 +7,7 @@ use mathlib.Core.List.{List, [], _∷_}
 use lib.Dec.{leb, eqb}
 use lib.ListN.{length}
 use borrow.Author.Tests.{eqb-true, leb-true}
+use Rattle.bits.proofs.Tests.{ask-passed}
 use Rattle.bits.specs.Strings.{parity}
 use Rattle.bits.specs.Bytes.{lowBits}
 use Rattle.bits.specs.Differences.{Each}
@@ -20,7 +21,7 @@ use Rattle.block.specs.Characters.{isSeven, isOdd, parityRight}
 use Rattle.block.specs.Walk.{Stop, ended, refused, Walked, walk}
 use Rattle.block.specs.Marks.{counted}
 use Rattle.block.specs.Check.{checkLength}
-use Rattle.block.specs.Read.{Framed, found, unframed, ask, askParities, askEnd, askWalk, framed}
+use Rattle.block.specs.Read.{Framed, found, unframed, askParities, askEnd, askWalk, framed}
 
 abbrev pub ParitiesRight : Parity → List ℕ → Type 0
 ParitiesRight p = Each (λ b. parity (lowBits 8 b) ≡ isOdd p)
@@ -39,16 +40,15 @@ equal-bits false true e = e
 equal-bits false false e = refl
 
 module _ {ks : List Mark} {f : Field} {e : EndSign} where
-  ask-passed : (holds : Bool) (n v : ℕ) (next : Framed) → ask holds n v next ≡ found ks f e → (holds ≡ true) × (next ≡ found ks f e)
-  ask-passed true n v next q = (refl, q)
-  ask-passed false n v next q = absurd (let z : _≡_ {A = ℕ} 0 1 = cc in omega arith)
+  not-found : {n v : ℕ} → unframed n v ≡ found ks f e → ⊥
+  not-found {n} {v} q = let z : _≡_ {A = ℕ} 0 1 = cc in omega arith
 
   parities-passed : (p : Parity) (line : List ℕ) (at : ℕ) (next : Framed) → askParities p line at next ≡ found ks f e
       → ParitiesRight p line × (next ≡ found ks f e)
   unfolding parityRight
   parities-passed p [] at next q = (tt, q)
   parities-passed p (b ∷ line) at next q =
-      let a = ask-passed (parityRight p b) 12 at (askParities p line (at + 1) next) q in
+      let a = ask-passed (parityRight p b) not-found q in
       let r = parities-passed p line (at + 1) next (a .1) in
       ((equal-bits (parity (lowBits 8 b)) (isOdd p) (a .0), r .0), r .1)
 
@@ -68,8 +68,8 @@ module _ {ks : List Mark} {f : Field} {e : EndSign} where
           absurd (let z : _≡_ {A = ℕ} 0 1 = cc in omega arith)
       go (ended g d) r =
           let c = sym (ap (askEnd m line (w .marks)) r) ∙ q in
-          let a = ask-passed (eqb (length line) (length (w .marks) + checkLength m)) 16 (length (w .marks)) _ c in
-          let b = ask-passed (leb (length (counted (w .marks) line)) 4096) 17 0 (found (w .marks) g d) (a .1) in
+          let a = ask-passed (eqb (length line) (length (w .marks) + checkLength m)) not-found c in
+          let b = ask-passed (leb (length (counted (w .marks) line)) 4096) not-found (a .1) in
           let k : found (w .marks) g d ≡ found ks f e = b .1 in
           let x : w .marks ≡ ks = cc in
           let y : ended g d ≡ ended f e = cc in (
@@ -83,7 +83,7 @@ unfolding framed
 passed m p line ks f e q =
     let w = walk (isSeven m) line 0 Start in
     let next = askWalk m line w in
-    let a = ask-passed (leb (length line) 16384) 11 0 (cond (isSeven m) (askParities p line 0 next) next) q in
+    let a = ask-passed (leb (length line) 16384) not-found q in
     let b = either-passed (isSeven m) p line next (a .1) in
     let c = end-passed m line w (b .1) in
     record { short = leb-true _ _ (a .0); parities = b .0; walked = c .0; closes = c .1; few = c .2 }

@@ -8,6 +8,7 @@ use mathlib.Core.List.{List, [], _∷_}
 use lib.Dec.{leb}
 use lib.ListN.{length}
 use borrow.Author.Tests.{leb-true, le-leb}
+use Rattle.bits.proofs.Tests.{ask-passed}
 use Rattle.bits.specs.Differences.{Each}
 use Rattle.block.specs.declared.Method.{Method}
 use Rattle.block.specs.declared.Parity.{Parity}
@@ -40,15 +41,11 @@ pub record Writes (m : Method) (p : Parity) (s : Shape) (e : EndSign) (head body
 apart : {n v : ℕ} {line : List ℕ} → refusal n v ≡ written line → ⊥
 apart {n = n} {v = v} {line = line} e = let z : _≡_ {A = ℕ} 0 1 = cc in omega arith
 
-asked : (holds : Bool) (n v : ℕ) (next : WriteAnswer) {line : List ℕ} → ask holds n v next ≡ written line → (holds ≡ true) × (next ≡ written line)
-asked true n v next e = (refl, e)
-asked false n v next e = absurd (apart e)
-
 asked-free : (seven : Bool) (n : ℕ) (bs : List ℕ) (at : ℕ) (next : WriteAnswer) {line : List ℕ} → askFree seven n bs at next ≡ written line
     → Free seven bs × (next ≡ written line)
 asked-free seven n [] at next e = (tt, e)
 asked-free seven n (b ∷ bs) at next e =
-    let a = asked (isFree seven b) n at (askFree seven n bs (at + 1) next) e in
+    let a = ask-passed (isFree seven b) apart e in
     let r = asked-free seven n bs (at + 1) next (a .1) in
     ((a .0, r .0), r .1)
 
@@ -56,13 +53,13 @@ pub passed : (m : Method) (p : Parity) (s : Shape) (e : EndSign) (head body line
     → Writes m p s e head body line room
 unfolding writeBlock
 passed m p s e head body line room w =
-    let a = asked (not (isSeven m && isClear s)) 1 0 _ w in
-    let b = asked ((hasHeader s || isEmpty head) && (hasText s || isEmpty body)) 4 0 _ (a .1) in
+    let a = ask-passed (not (isSeven m && isClear s)) apart w in
+    let b = ask-passed ((hasHeader s || isEmpty head) && (hasText s || isEmpty body)) apart (a .1) in
     let fits = and-eq-true-iff (hasHeader s || isEmpty head) (hasText s || isEmpty body) .0 (b .0) in
     let c = asked-free (isSeven m) 2 head 0 _ (b .1) in
     let d = asked-free (isSeven m) 3 (cond (isClear s) [] body) 0 _ (c .1) in
-    let f = asked (leb (countedLength s head body) 4096) 5 0 _ (d .1) in
-    let g = asked (leb (length (lineOf m p s e head body)) room) 6 (length (lineOf m p s e head body)) _ (f .1) in
+    let f = ask-passed (leb (countedLength s head body) 4096) apart (d .1) in
+    let g = ask-passed (leb (length (lineOf m p s e head body)) room) apart (f .1) in
     let q : lineOf m p s e head body ≡ line = cc (g .1) in
     record {
       allowed = record { carried = a .0; header-fits = fits .0; text-fits = fits .1; header-free = c .0; text-free = d .0 };

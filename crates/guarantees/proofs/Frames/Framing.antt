@@ -8,6 +8,7 @@ use mathlib.Core.List.{List}
 use lib.Dec.{leb, eqb}
 use lib.ListN.{length, take, drop}
 use borrow.Author.Tests.{leb-true, eqb-true}
+use Rattle.bits.proofs.Tests.{ask-passed}
 use Rattle.bits.specs.Strings.{same}
 use Rattle.bits.specs.Bytes.{bytesFor}
 use Rattle.bits.specs.Differences.{setFrom}
@@ -15,7 +16,7 @@ use Rattle.bits.proofs.Strings.{same-sound, same-self}
 use Rattle.cyclic.specs.Check.{Parameters, checkBits}
 use Rattle.frame.specs.Stuffing.{Unstuffed, clean, missing, unstuff, behindFive}
 use Rattle.frame.specs.Frame.{width, flag}
-use Rattle.frame.specs.Read.{Framed, found, unframed, ask, askLength, askZeros, between, framed, none, framing, framingBy, framingOf, contentOf, checkIn, askCheck, readBits}
+use Rattle.frame.specs.Read.{Framed, found, unframed, askLength, askZeros, between, framed, none, framing, framingBy, framingOf, contentOf, checkIn, askCheck, readBits}
 use Rattle.guarantees.specs.Lines.{SameFraming}
 use Rattle.guarantees.specs.Frames.{Accepts, Accepted, frames}
 use Rattle.guarantees.proofs.Frames.Numbers.{FramedNumbered, framed-numbered, answer}
@@ -37,16 +38,12 @@ same-true a b e = same-sound a b (rw e tt)
 apart : {n v : ℕ} {s : List Bool} → unframed n v ≡ found s → ⊥
 apart {n = n} {v = v} {s = s} e = let z : _≡_ {A = ℕ} 0 1 = cc in omega arith
 
-asked : (holds : Bool) (n v : ℕ) (next : Framed) {s : List Bool} → ask holds n v next ≡ found s → (holds ≡ true) × (next ≡ found s)
-asked true n v next e = (refl, e)
-asked false n v next e = absurd (apart e)
-
 module _ (m : Parameters) (s : List Bool) where
   lengths : (u : List Bool) → askLength m u ≡ found s → (u ≡ s) × (length s % 8 ≡ 0) × (8 + width m ≤ length s) × (length s ≤ 8 * m .limit + width m)
   lengths u e =
-      let a = asked (eqb (length u % 8) 0) 34 0 _ e in
-      let b = asked (leb (8 + width m) (length u)) 35 0 _ (a .1) in
-      let c = asked (leb (length u) (8 * m .limit + width m)) 36 0 _ (b .1) in
+      let a = ask-passed (eqb (length u % 8) 0) apart e in
+      let b = ask-passed (leb (8 + width m) (length u)) apart (a .1) in
+      let c = ask-passed (leb (length u) (8 * m .limit + width m)) apart (b .1) in
       let q : u ≡ s = cc (c .1) in
       (q, rw (← q) (eqb-true _ _ (a .0)), rw (← q) (leb-true _ _ (b .0)), rw (← q) (leb-true _ _ (c .0)))
 
@@ -58,9 +55,9 @@ module _ (m : Parameters) (s : List Bool) where
   pub passed : (frame : List Bool) → framed m frame ≡ found s → Passed m frame s
   unfolding framed
   passed frame e =
-      let a = asked (leb 16 (length frame)) 32 0 _ e in
-      let b = asked (same (take 8 frame) flag) 32 0 _ (a .1) in
-      let c = asked (same (drop (length frame - 8) frame) flag) 32 0 _ (b .1) in
+      let a = ask-passed (leb 16 (length frame)) apart e in
+      let b = ask-passed (same (take 8 frame) flag) apart (a .1) in
+      let c = ask-passed (same (drop (length frame - 8) frame) flag) apart (b .1) in
       let z = zeros-of (unstuff 0 8 (between frame)) (c .1) in
       record {
         long = leb-true _ _ (a .0);

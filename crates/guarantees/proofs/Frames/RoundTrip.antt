@@ -8,6 +8,7 @@ use lib.Dec.{leb}
 use lib.ListN.{length, take, drop, length-append, take-append-drop}
 use lib.Seq.{take-at, drop-at, take-append-le, length-take-le}
 use borrow.Author.Tests.{leb-true, le-leb, eq-eqb}
+use Rattle.bits.proofs.Tests.{ask-passed}
 use Rattle.bits.specs.Strings.{same, zeros}
 use Rattle.bits.specs.Bytes.{bitsOf, bytesFor, pack}
 use Rattle.bits.proofs.Strings.{same-self}
@@ -31,11 +32,6 @@ use Rattle.guarantees.proofs.Frames.Bridge.{length-flag, whole}
 not-written : {n v : ℕ} {f : List Bool} → writing.refusal n v ≡ writing.written f → ⊥
 not-written {n = n} {v = v} {f = f} e = let z : _≡_ {A = ℕ} 0 1 = cc in omega arith
 
-writing-asked : (holds : Bool) (n v : ℕ) (next : writing.WriteAnswer) {f : List Bool} → writing.ask holds n v next ≡ writing.written f
-    → (holds ≡ true) × (next ≡ writing.written f)
-writing-asked true n v next e = (refl, e)
-writing-asked false n v next e = absurd (not-written e)
-
 record Written (m : Parameters) (content : List ℕ) (frame : List Bool) : Type 0 where
   some : 1 ≤ length content
   within : length content ≤ m .limit
@@ -44,10 +40,10 @@ record Written (m : Parameters) (content : List ℕ) (frame : List Bool) : Type 
 was-written : (m : Parameters) (content : List ℕ) (frame : List Bool) (room : ℕ) → writing.writeFrame m content room ≡ writing.written frame → Written m content frame
 unfolding writing.writeFrame
 was-written m content frame room e =
-    let a = writing-asked (leb 1 (length content)) 21 0 _ e in
-    let b = writing-asked (leb (length content) (m .limit)) 22 0 _ (a .1) in
+    let a = ask-passed (leb 1 (length content)) not-written e in
+    let b = ask-passed (leb (length content) (m .limit)) not-written (a .1) in
     let f = frameOf m (bitsOf content) in
-    let c = writing-asked (leb (bytesFor (length f)) room) 23 (bytesFor (length f)) (writing.written f) (b .1) in
+    let c = ask-passed (leb (bytesFor (length f)) room) not-written (b .1) in
     record { some = leb-true _ _ (a .0); within = leb-true _ _ (b .0); bits = cc (c .1) }
 
 -- ---- an enclosed string is found again
