@@ -1,10 +1,9 @@
 // Method 4: the alternative check of a block by appendix 3, from zero and not inverted.
-use crate::tables::ibm16::IBM16;
 use folding::enter_ibm;
 ghost use mathlib.Core.Path.{_≡_};
 ghost use Rattle.bits.specs.Bytes.{lowBits, bitsOf};
 ghost use Rattle.cyclic.specs.Check.{method4, invertIf, checkBits, Constants};
-ghost use Rattle.registers.specs.Register.{tableOf, enter};
+ghost use Rattle.registers.specs.Register.{enter};
 
 // The register of the check. Bit 0 of a number is the highest power of x.
 pub struct Cyclic4 {
@@ -28,13 +27,6 @@ impl Cyclic4 {
         Self {
             register: Self::START,
         }
-    }
-
-    // The table through which bytes enter one by one: fetched once, lent to `enter_byte16`.
-    pub fn table() -> [u16; 256]
-        ensures { λ r. ⌜ r ≡ tableOf 16 (method4 .generator) ⌝ }
-    {
-        IBM16
     }
 
     // The register after a whole slice.

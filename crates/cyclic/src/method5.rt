@@ -1,10 +1,9 @@
 // Method 5: the check of a frame by appendix 1, inverted.
-use crate::tables::ccitt16::CCITT16;
 use folding::enter_ccitt;
 ghost use mathlib.Core.Path.{_≡_};
 ghost use Rattle.bits.specs.Bytes.{lowBits, bitsOf};
 ghost use Rattle.cyclic.specs.Check.{method5, invertIf, checkBits, Constants};
-ghost use Rattle.registers.specs.Register.{tableOf, enter};
+ghost use Rattle.registers.specs.Register.{enter};
 
 // The register of the check. Bit 0 of a number is the highest power of x.
 pub struct Cyclic5 {
@@ -28,13 +27,6 @@ impl Cyclic5 {
         Self {
             register: Self::START,
         }
-    }
-
-    // The table through which bytes enter one by one: fetched once, lent to `enter_byte16`.
-    pub fn table() -> [u16; 256]
-        ensures { λ r. ⌜ r ≡ tableOf 16 (method5 .generator) ⌝ }
-    {
-        CCITT16
     }
 
     // The register after a whole slice.

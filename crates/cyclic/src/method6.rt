@@ -1,10 +1,9 @@
 // Method 6: the check of a frame by appendix 2, inverted.
-use crate::tables::ieee32::IEEE32;
 use folding::enter_ieee;
 ghost use mathlib.Core.Path.{_≡_};
 ghost use Rattle.bits.specs.Bytes.{lowBits, bitsOf};
 ghost use Rattle.cyclic.specs.Check.{method6, invertIf, checkBits, Constants};
-ghost use Rattle.registers.specs.Register.{tableOf, enter};
+ghost use Rattle.registers.specs.Register.{enter};
 
 // The register of the check. Bit 0 of a number is the highest power of x.
 pub struct Cyclic6 {
@@ -28,13 +27,6 @@ impl Cyclic6 {
         Self {
             register: Self::START,
         }
-    }
-
-    // The table through which bytes enter one by one: fetched once, lent to `enter_byte32`.
-    pub fn table() -> [u32; 256]
-        ensures { λ r. ⌜ r ≡ tableOf 32 (method6 .generator) ⌝ }
-    {
-        IEEE32
     }
 
     // The register after a whole slice.

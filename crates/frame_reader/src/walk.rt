@@ -13,6 +13,8 @@ use frame::FrameMethod;
 use frame::ReadRefusal;
 use frame::check_width;
 use frame::limit;
+use tables::ccitt16;
+use tables::ieee32;
 ghost use mathlib.Core.Path.{_≡_};
 ghost use mathlib.Core.Bool.{cond};
 ghost use Prim.Native.Nat.{_+_, _-_, _*_, _^_, _<_, _≤_};
@@ -66,11 +68,11 @@ fn walk(m: FrameMethod, lent: &[u8], end: usize) -> WalkEnd
 {
     match m {
         FrameMethod::Cyclic16 => {
-            let table = Cyclic5::table();
+            let table = ccitt16();
             walk_end(judge16(&table, Cyclic5::START, lent, end), end, REMAINDER16)
         }
         FrameMethod::Cyclic32 => {
-            let table = Cyclic6::table();
+            let table = ieee32();
             walk_end(judge32(&table, Cyclic6::START, lent, end), end, REMAINDER32)
         }
     }

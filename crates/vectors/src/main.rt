@@ -6,9 +6,6 @@ use cyclic::Cyclic4;
 use cyclic::Cyclic5;
 use cyclic::Cyclic6;
 use libc::STDOUT_FILENO;
-ghost use mathlib.Core.Path.{_≡_};
-ghost use Rattle.bits.specs.Bytes.{lowBits, bitsOf};
-ghost use Rattle.cyclic.specs.Check.{checkBits, method4};
 
 mod print;
 mod rows;
@@ -43,20 +40,6 @@ fn print_sent32(label: &[u8], check: u32) {
     io::write_all(STDOUT_FILENO, b"\n");
 }
 
-// The check of method 4, byte by byte: the same by the contracts of the calls alone.
-fn check_4_by_bytes(content: &[u8]) -> u16
-    ensures { λ r. ⌜ lowBits 16 r ≡ checkBits method4 (bitsOf (now (content .entry))) ⌝ }
-{
-    let table = Cyclic4::table();
-    let mut register = Cyclic4::START;
-    let mut i = 0;
-    while i < content.len() {
-        register = registers::enter_byte16(&table, register, content[i]);
-        i += 1;
-    }
-    Cyclic4 { register }.check()
-}
-
 fn main() {
     print_check(
         b"123456789, method 3: ",
@@ -69,8 +52,8 @@ fn main() {
         4,
     );
     print_check(
-        b"123456789, method 4 by bytes: ",
-        check_4_by_bytes(b"123456789") as u64,
+        b"123456789, method 4 in two parts: ",
+        Cyclic4::new().enter(b"1234").enter(b"56789").check() as u64,
         4,
     );
     print_check(

@@ -16,8 +16,8 @@ use Rattle.frame_reader.proofs.walk.walk.Tie as tie
 enum-told : tie.Need-enum-told
 enum-told c = search needs
 
-table-requires : tie.Need-table-requires
-table-requires c κs = search needs
+ccitt16-requires : tie.Need-ccitt16-requires
+ccitt16-requires c κs = search needs
 
 judge16-requires : tie.Need-judge16-requires
 judge16-requires c κs = search needs
@@ -28,8 +28,8 @@ walk-end-requires c κs = search needs
 enum-told-2 : tie.Need-enum-told-2
 enum-told-2 c = search needs
 
-table-requires-2 : tie.Need-table-requires-2
-table-requires-2 c κs = search needs
+ieee32-requires : tie.Need-ieee32-requires
+ieee32-requires c κs = search needs
 
 judge32-requires : tie.Need-judge32-requires
 judge32-requires c κs = search needs
@@ -38,6 +38,7 @@ walk-end-requires-2 : tie.Need-walk-end-requires-2
 walk-end-requires-2 c κs = search needs
 
 returns : tie.Need-returns
+unfolding method5
 returns c =
     let a = c .before .before .before .before .before .before .before .args in
     let told = c .before .before .before .before .enum-told .given .1 in
@@ -47,10 +48,11 @@ returns c =
     rw told (
       ap ofWalk e ∙ walk-zeros (a .end) 0xf0b8 _ _ (unstuff 0 8 (slice 8 (a .end) (bitsOf (now (a .lent))))) x (k .0),
       subst (ChecksRight method5 (now (a .lent))) (sym e)
-          (walk-checks 8 method5 width-5 (receivers .method-5) 0xf0b8 (lit< tt) remainder-16 start-5 (lit< tt) (c .before .before .before .table .ensures) (now (a .lent)) (a .end) x (k .0) (k .1)),
+          (walk-checks 8 method5 width-5 (receivers .method-5) 0xf0b8 (lit< tt) remainder-16 start-5 (lit< tt) (c .before .before .before .ccitt16 .ensures) (now (a .lent)) (a .end) x (k .0) (k .1)),
     )
 
 returns-2 : tie.Need-returns-2
+unfolding method6
 returns-2 c =
     let a = c .before .before .before .before .before .before .before .args in
     let told = c .before .before .before .before .enum-told2 .given .1 in
@@ -60,7 +62,7 @@ returns-2 c =
     rw told (
       ap ofWalk e ∙ walk-zeros (a .end) 0xdebb20e3 _ _ (unstuff 0 8 (slice 8 (a .end) (bitsOf (now (a .lent))))) x (k .0),
       subst (ChecksRight method6 (now (a .lent))) (sym e)
-          (walk-checks 24 method6 width-6 (receivers .method-6) 0xdebb20e3 (lit< tt) remainder-32 start-6 (lit< tt) (c .before .before .before .table3 .ensures) (now (a .lent)) (a .end) x (k .0) (k .1)),
+          (walk-checks 24 method6 width-6 (receivers .method-6) 0xdebb20e3 (lit< tt) remainder-32 start-6 (lit< tt) (c .before .before .before .ieee32 .ensures) (now (a .lent)) (a .end) x (k .0) (k .1)),
     )
 
 pub walk-spec : {M : Type 1} → statement M
@@ -68,11 +70,11 @@ walk-spec =
     tie.close
     (tie.spec
     enum-told
-    table-requires
+    ccitt16-requires
     judge16-requires
     walk-end-requires
     enum-told-2
-    table-requires-2
+    ieee32-requires
     judge32-requires
     walk-end-requires-2
     returns

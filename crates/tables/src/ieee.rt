@@ -1,5 +1,9 @@
 // The byte table of the generator of degree 32, method 6.
-pub const IEEE32: [u32; 256] = [
+ghost use mathlib.Core.Path.{_≡_};
+ghost use Rattle.division.specs.Generators.{ieee32};
+ghost use Rattle.registers.specs.Register.{tableOf};
+
+const TABLE: [u32; 256] = [
     0x00000000,
     0x77073096,
     0xee0e612c,
@@ -257,3 +261,9 @@ pub const IEEE32: [u32; 256] = [
     0x5a05df1b,
     0x2d02ef8d,
 ];
+
+pub fn ieee32() -> [u32; 256]
+    ensures { λ r. ⌜ r ≡ tableOf 32 ieee32 ⌝ }
+{
+    TABLE
+}

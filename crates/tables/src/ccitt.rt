@@ -1,5 +1,9 @@
 // The byte table of x^16 + x^12 + x^5 + 1, methods 3 and 5.
-pub const CCITT16: [u16; 256] = [
+ghost use mathlib.Core.Path.{_≡_};
+ghost use Rattle.division.specs.Generators.{ccitt16};
+ghost use Rattle.registers.specs.Register.{tableOf};
+
+const TABLE: [u16; 256] = [
     0x0000,
     0x1189,
     0x2312,
@@ -257,3 +261,9 @@ pub const CCITT16: [u16; 256] = [
     0x1ef1,
     0x0f78,
 ];
+
+pub fn ccitt16() -> [u16; 256]
+    ensures { λ r. ⌜ r ≡ tableOf 16 ccitt16 ⌝ }
+{
+    TABLE
+}
