@@ -40,7 +40,8 @@ fn print_sent32(label: &[u8], check: u32) {
     io::write_all(STDOUT_FILENO, b"\n");
 }
 
-fn main() {
+// The check values that are published for each polynomial.
+fn published() {
     print_check(
         b"123456789, method 3: ",
         Cyclic3::check_of(b"123456789") as u64,
@@ -66,6 +67,10 @@ fn main() {
         Cyclic6::check_of(b"123456789") as u64,
         8,
     );
+}
+
+// Document 01's rows 11 to 13.
+fn checks() {
     print_sent16(
         b"row 11, check of FF, method 5:",
         Cyclic5::check_of(b"\xff"),
@@ -78,6 +83,11 @@ fn main() {
         b"row 13, check of FF, method 6:",
         Cyclic6::check_of(b"\xff"),
     );
+}
+
+fn main() {
+    published();
+    checks();
     rows::row_13();
     rows::row_15();
     rows::row_16_taken();
