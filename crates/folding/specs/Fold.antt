@@ -6,13 +6,6 @@ use mathlib.Core.List.{List, [], _∷_, _++_}
 use lib.ListN.{length, take, drop}
 use Rattle.bits.specs.Strings.{xorBits, zeros}
 use Rattle.bits.specs.Bytes.{lowBits}
-use Rattle.division.specs.Generators.{ccitt16, ibm16}
-use Rattle.registers.specs.Register.{tableOf, enterAllByTable}
-use Rattle.folding.specs.declared.fold_ccitt.Pending256.{Pending256}
-use Rattle.folding.specs.declared.fold_ibm.Pending192.{Pending192}
-use Rattle.folding.specs.declared.fold_ieee.Pending320.{Pending320}
-use Rattle.folding.specs.declared.generator.Generator16.{Generator16}
-use Rattle.folding.specs.declared.generator.Generator16.the-variants.{Ccitt, Ibm}
 
 -- the 64 bits t times each power of es, added up in a string of n bits
 unfoldable pub spread : ℕ → List ℕ → List Bool → List Bool
@@ -43,21 +36,3 @@ ibmPowers = 128 ∷ 80 ∷ 72 ∷ 16 ∷ 8 ∷ []
 
 abbrev pub ieeePowers : List ℕ
 ieeePowers = 175 ∷ 137 ∷ 109 ∷ 20 ∷ []
-
--- what is yet to be added, as the code holds it
-abbrev pub bits256 : Pending256 → List Bool
-bits256 f = wordBits (f .a ∷ f .b ∷ f .c ∷ f .d ∷ [])
-
-abbrev pub bits192 : Pending192 → List Bool
-bits192 f = wordBits (f .a ∷ f .b ∷ f .c ∷ [])
-
-abbrev pub bits320 : Pending320 → List Bool
-bits320 f = wordBits (f .a ∷ f .b ∷ f .c ∷ f .d ∷ f .e ∷ [])
-
-abbrev pub generatorOf : Generator16 → List Bool
-generatorOf Ccitt = ccitt16
-generatorOf Ibm = ibm16
-
--- the register after bytes, as a number: the one that the generator's table gives
-abbrev pub registerAfter : Generator16 → ℕ → List ℕ → ℕ
-registerAfter g = enterAllByTable (tableOf 16 (generatorOf g))

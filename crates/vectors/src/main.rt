@@ -1,10 +1,10 @@
 // Runs the published check values and document 01's rows 11 to 13 and 15 to 17 through the calls, and prints what they answer, a
 // row a line. The file `stdout` holds what the papers say.
 use block::Method;
-use cyclic::Cyclic3;
-use cyclic::Cyclic4;
-use cyclic::Cyclic5;
-use cyclic::Cyclic6;
+use cyclic3::Cyclic3;
+use cyclic4::Cyclic4;
+use cyclic5::Cyclic5;
+use cyclic6::Cyclic6;
 use libc::STDOUT_FILENO;
 
 mod print;

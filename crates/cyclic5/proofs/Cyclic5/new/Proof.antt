@@ -1,0 +1,14 @@
+-- `Cyclic5::new` meets its contract: the constants are those of the method. Assumes nothing.
+use mathlib.Core.Path.{refl}
+use Rattle.bits.specs.Bytes.{lowBits}
+use Rattle.division.specs.Generators.{ccitt16}
+use Rattle.cyclic.specs.Check.{method5}
+use Rattle.cyclic5.proofs.Cyclic5.new.Statement.{statement}
+use Rattle.cyclic5.proofs.Cyclic5.new.Tie as tie
+
+returns : tie.Need-returns
+unfolding lowBits ccitt16 method5
+returns c = record { register-start = refl; width-is = refl; polynomial-is = refl; start-is = refl; limit-is = refl }
+
+pub new-spec : {M : Type 1} → statement M
+new-spec = tie.close (tie.spec returns)
