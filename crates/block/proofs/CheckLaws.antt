@@ -15,8 +15,8 @@ use Rattle.bits.proofs.Packing.{length-pack}
 use Rattle.cyclic.specs.Check.{Parameters, invertIf, checkBits, method3, method4}
 use Rattle.registers.specs.Register.{tableOf}
 use Rattle.cyclic.specs.Laws.{OfWidth}
-use Rattle.folding.specs.declared.generator.Generator16.{Generator16}
-use Rattle.folding.specs.Fold.{generatorOf, registerAfter}
+use Rattle.generator16.specs.declared.Generator16.{Generator16}
+use Rattle.generator16.specs.Register.{generatorOf, registerAfter}
 use Rattle.registers.proofs.Table.{entered-by}
 use Rattle.cyclic.proofs.Checks.{length-check}
 use Rattle.cyclic.proofs.Methods.{check-of, width-3, width-4}

@@ -1,6 +1,6 @@
 // What the checks of a read and of a written block share: the limit of the count, the length of a check, and sums bit by bit.
 use crate::Method;
-use cyclic::Cyclic3;
+use cyclic3::Cyclic3;
 ghost use mathlib.Core.Path.{_≡_};
 ghost use Rattle.block.specs.Check.{checkLength, xorAll};
 
