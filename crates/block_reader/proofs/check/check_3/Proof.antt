@@ -4,7 +4,7 @@ use mathlib.Core.Bool.{false}
 use lib.Dec.{lit<}
 use Rattle.cyclic.specs.Check.{method3}
 use Rattle.cyclic.proofs.Methods.{width-3}
-use Rattle.folding.specs.declared.generator.Generator16.the-variants.{Ccitt}
+use Rattle.generator16.specs.declared.Generator16.the-variants.{Ccitt}
 use Rattle.block.proofs.CheckLaws.{start-3, register-check}
 use Rattle.block_framing.specs.Framings.{countedIn}
 use borrow.Author.Needs.{needs}

@@ -4,7 +4,7 @@ use mathlib.Core.Bool.{false}
 use lib.Dec.{lit<}
 use Rattle.cyclic.specs.Check.{method4}
 use Rattle.cyclic.proofs.Methods.{width-4}
-use Rattle.folding.specs.declared.generator.Generator16.the-variants.{Ibm}
+use Rattle.generator16.specs.declared.Generator16.the-variants.{Ibm}
 use Rattle.block.proofs.CheckLaws.{start-4, register-check}
 use Rattle.block_framing.specs.Framings.{countedIn}
 use borrow.Author.Needs.{needs}
