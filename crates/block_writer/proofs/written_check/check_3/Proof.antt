@@ -5,7 +5,7 @@ use borrow.Author.Needs.{needs}
 use Rattle.bits.specs.Bytes.{pack}
 use Rattle.cyclic.specs.Check.{method3}
 use Rattle.cyclic.proofs.Methods.{width-3}
-use Rattle.folding.specs.declared.generator.Generator16.the-variants.{Ccitt}
+use Rattle.generator16.specs.declared.Generator16.the-variants.{Ccitt}
 use Rattle.block.proofs.CheckLaws.{start-3, register-check}
 use Rattle.block_writer.specs.Writing.{checkedBytes}
 use Rattle.block_writer.proofs.written_check.check_3.Statement.{statement}

@@ -5,7 +5,7 @@ use borrow.Author.Needs.{needs}
 use Rattle.bits.specs.Bytes.{pack}
 use Rattle.cyclic.specs.Check.{method4}
 use Rattle.cyclic.proofs.Methods.{width-4}
-use Rattle.folding.specs.declared.generator.Generator16.the-variants.{Ibm}
+use Rattle.generator16.specs.declared.Generator16.the-variants.{Ibm}
 use Rattle.block.proofs.CheckLaws.{start-4, register-check}
 use Rattle.block_writer.specs.Writing.{checkedBytes}
 use Rattle.block_writer.proofs.written_check.check_4.Statement.{statement}
