@@ -2,7 +2,7 @@
 use ccitt16::enter_ccitt;
 ghost use mathlib.Core.Path.{_≡_};
 ghost use Rattle.bits.specs.Bytes.{lowBits, bitsOf};
-ghost use Rattle.cyclic.specs.Check.{method5, invertIf, checkBits, Constants};
+ghost use Rattle.cyclic.specs.Check.{method5, invertIf, checkBits, Constants, Receives};
 ghost use Rattle.registers.specs.Register.{enter};
 
 // The register of the check. Bit 0 of a number is the highest power of x.
@@ -20,9 +20,13 @@ impl Cyclic5 {
     // In bytes.
     pub const LIMIT: usize = 4096;
 
+    // What content and check leave a receiver where the check is right (003 appendix 1).
+    pub const RESIDUE: u16 = 0xf0b8;
+
     // The register before any content.
     pub fn new() -> Self
         ensures { λ r. do ⌜ Constants method5 (r .register) (← ⟦Cyclic5::WIDTH⟧ .entry) (← ⟦Cyclic5::POLYNOMIAL⟧ .entry) (← ⟦Cyclic5::START⟧ .entry) (← ⟦Cyclic5::LIMIT⟧ .entry) ⌝ }
+        ensures { λ r. do ⌜ Receives method5 16 (lowBits 16 (← ⟦Cyclic5::RESIDUE⟧ .entry)) ⌝ }
     {
         Self {
             register: Self::START,

@@ -2,7 +2,7 @@
 use ieee32::enter_ieee;
 ghost use mathlib.Core.Path.{_≡_};
 ghost use Rattle.bits.specs.Bytes.{lowBits, bitsOf};
-ghost use Rattle.cyclic.specs.Check.{method6, invertIf, checkBits, Constants};
+ghost use Rattle.cyclic.specs.Check.{method6, invertIf, checkBits, Constants, Receives};
 ghost use Rattle.registers.specs.Register.{enter};
 
 // The register of the check. Bit 0 of a number is the highest power of x.
@@ -20,9 +20,13 @@ impl Cyclic6 {
     // In bytes.
     pub const LIMIT: usize = 65536;
 
+    // What content and check leave a receiver where the check is right: worked out by the formula of 003 appendix 2, which misprints it.
+    pub const RESIDUE: u32 = 0xdebb20e3;
+
     // The register before any content.
     pub fn new() -> Self
         ensures { λ r. do ⌜ Constants method6 (r .register) (← ⟦Cyclic6::WIDTH⟧ .entry) (← ⟦Cyclic6::POLYNOMIAL⟧ .entry) (← ⟦Cyclic6::START⟧ .entry) (← ⟦Cyclic6::LIMIT⟧ .entry) ⌝ }
+        ensures { λ r. do ⌜ Receives method6 32 (lowBits 32 (← ⟦Cyclic6::RESIDUE⟧ .entry)) ⌝ }
     {
         Self {
             register: Self::START,

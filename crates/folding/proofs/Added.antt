@@ -32,13 +32,7 @@ added-none k m =
     ∙ xorBits-short (zeros (length m)) (zeros k) m (omega (arith, length-zeros (length m)))
     ∙ xorBits-zeros (length m) m refl
 
--- what is pending beyond the bits does not count, nor do zeros
-pub added-short : (a b m : List Bool) → length m ≤ length a → added (a ++ b) m ≡ added a m
-unfolding added
-added-short a b m h =
-    ap (λ z. xorBits z m) (append-assoc a b (zeros (length m))) ∙ xorBits-short a (b ++ zeros (length m)) m h
-    ∙ sym (xorBits-short a (zeros (length m)) m h)
-
+-- zeros do not count
 pub added-zeros : (a m : List Bool) (k : ℕ) → added (a ++ zeros k) m ≡ added a m
 unfolding added
 added-zeros a m k =

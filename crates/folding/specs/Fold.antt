@@ -1,6 +1,7 @@
 -- Folding: where x^n is a sum of lower powers modulo the generator, 64 bits at the front of a content are taken away and added
 -- further on. Assumes nothing.
-use Prim.Native.Nat.{ℕ, _-_}
+use mathlib.Core.Path.{_≡_}
+use Prim.Native.Nat.{ℕ, zero, suc, _-_}
 use mathlib.Core.Bool.{Bool}
 use mathlib.Core.List.{List, [], _∷_, _++_}
 use lib.ListN.{length, take, drop}
@@ -24,6 +25,12 @@ foldedBits n es pending word = xorBits (spread n es (xorBits (take 64 pending) w
 -- bits with what is yet to be added to them, as far as they go
 unfoldable pub added : List Bool → List Bool → List Bool
 added pending m = xorBits (pending ++ zeros (length m)) m
+
+-- nothing is yet to be added behind n words
+unfoldable pub EndsWithin : ℕ → List ℕ → Type 0
+EndsWithin n [] = Unit
+EndsWithin zero (w ∷ ws) = (w ≡ 0) × EndsWithin zero ws
+EndsWithin (suc n) (w ∷ ws) = EndsWithin n ws
 
 -- ---- the multiples of the generators: x^256 = x^192 + x^80 + 1; x^192 = x^128 + x^80 + x^72 + x^16 + x^8;
 -- x^320 = x^175 + x^137 + x^109 + x^20
