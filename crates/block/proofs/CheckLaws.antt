@@ -28,14 +28,6 @@ use Rattle.block.specs.Check.{columnSums, matrixCheck, checkOf, xorAll, 
 
 -- ---- registers of the cyclic methods
 
-pub start-3 : lowBits 16 0xffff ≡ method3 .start
-unfolding lowBits method3
-start-3 = refl
-
-pub start-4 : lowBits 16 0 ≡ method4 .start
-unfolding lowBits method4
-start-4 = refl
-
 -- a register that began at a method's start, and the number made of it, hold the check of the bytes that entered
 pub register-check : (m : Parameters) → OfWidth 16 m → (g : Generator16) → generatorOf g ≡ m .generator → (bs : List ℕ) (check : ℕ) {start register : ℕ}
     → lowBits 16 start ≡ m .start → start < 2 ^ 16 → register ≡ registerAfter g start bs
