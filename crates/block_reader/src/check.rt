@@ -67,8 +67,9 @@ fn check_3(f: Framing, line: &[u8]) -> u16
     requires { ⌜ CountsKept false f (now line) ⌝ }
     ensures { λ r. ⌜ lowBits 16 r ≡ checkBits method3 (bitsOf (countedIn false f (now (line .entry)))) ⌝ }
 {
-    let register = enter_counted(Generator16::Ccitt, Cyclic3::START, f, line);
-    Cyclic3 { register }.check()
+    let mut cyclic = Cyclic3::new();
+    cyclic.register = enter_counted(Generator16::Ccitt, cyclic.register, f, line);
+    cyclic.check()
 }
 
 fn check_4(f: Framing, line: &[u8]) -> u16
@@ -76,8 +77,9 @@ fn check_4(f: Framing, line: &[u8]) -> u16
     requires { ⌜ CountsKept false f (now line) ⌝ }
     ensures { λ r. ⌜ lowBits 16 r ≡ checkBits method4 (bitsOf (countedIn false f (now (line .entry)))) ⌝ }
 {
-    let register = enter_counted(Generator16::Ibm, Cyclic4::START, f, line);
-    Cyclic4 { register }.check()
+    let mut cyclic = Cyclic4::new();
+    cyclic.register = enter_counted(Generator16::Ibm, cyclic.register, f, line);
+    cyclic.check()
 }
 
 // Whether two bytes at the place `at` are a check as it is sent.
