@@ -53,16 +53,18 @@ pub fn check_3(shape: Shape, end: EndSign, header: &[u8], text: &[u8]) -> [u8; 2
     ensures { λ r. ⌜ r ≡ pack (checkBits method3 (bitsOf (checkedBytes shape end (now (header .entry)) (now (text .entry))))) ⌝ }
 {
     let g = Generator16::Ccitt;
-    let register = written_register(g, Cyclic3::START, shape, end, header, text);
-    sent16(Cyclic3 { register }.check())
+    let mut cyclic = Cyclic3::new();
+    cyclic.register = written_register(g, cyclic.register, shape, end, header, text);
+    sent16(cyclic.check())
 }
 
 pub fn check_4(shape: Shape, end: EndSign, header: &[u8], text: &[u8]) -> [u8; 2]
     ensures { λ r. ⌜ r ≡ pack (checkBits method4 (bitsOf (checkedBytes shape end (now (header .entry)) (now (text .entry))))) ⌝ }
 {
     let g = Generator16::Ibm;
-    let register = written_register(g, Cyclic4::START, shape, end, header, text);
-    sent16(Cyclic4 { register }.check())
+    let mut cyclic = Cyclic4::new();
+    cyclic.register = written_register(g, cyclic.register, shape, end, header, text);
+    sent16(cyclic.check())
 }
 
 // The inner start enters the sums of method 2.
