@@ -28,11 +28,6 @@ ghost use Rattle.frame.specs.Frame.{parametersOf, flag};
 ghost use Rattle.frame.specs.Read.{askZeros, framed};
 ghost use Rattle.frame_reader.specs.Steps.{ofWalk, walkEnd, zerosAnswer, ChecksRight, framedAnswer, unframed};
 
-// The remainders of appendices 1 and 2, the highest power in bit 0.
-const REMAINDER16: u32 = 0xf0b8;
-
-const REMAINDER32: u32 = 0xdebb20e3;
-
 // Whether the eight bits from a place on are a flag.
 fn is_flag(lent: &[u8], at: usize) -> bool
     requires { ⌜ (at + 8 < 2 ^ 64) × (at + 8 ≤ 8 * length (now lent)) ⌝ }
@@ -68,12 +63,16 @@ fn walk(m: FrameMethod, lent: &[u8], end: usize) -> WalkEnd
 {
     match m {
         FrameMethod::Cyclic16 => {
+            let cyclic = Cyclic5::new();
             let table = ccitt16();
-            walk_end(judge16(&table, Cyclic5::START, lent, end), end, REMAINDER16)
+            let judged = judge16(&table, cyclic.register, lent, end);
+            walk_end(judged, end, Cyclic5::RESIDUE as u32)
         }
         FrameMethod::Cyclic32 => {
+            let cyclic = Cyclic6::new();
             let table = ieee32();
-            walk_end(judge32(&table, Cyclic6::START, lent, end), end, REMAINDER32)
+            let judged = judge32(&table, cyclic.register, lent, end);
+            walk_end(judged, end, Cyclic6::RESIDUE)
         }
     }
 }
