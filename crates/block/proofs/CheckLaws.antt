@@ -15,8 +15,8 @@ use Rattle.bits.proofs.Packing.{length-pack}
 use Rattle.cyclic.specs.Check.{Parameters, invertIf, checkBits, method3, method4}
 use Rattle.registers.specs.Register.{tableOf}
 use Rattle.cyclic.specs.Laws.{OfWidth}
-use Rattle.folding.specs.declared.generator.Generator16.{Generator16}
-use Rattle.folding.specs.Fold.{generatorOf, registerAfter}
+use Rattle.generator16.specs.declared.Generator16.{Generator16}
+use Rattle.generator16.specs.Register.{generatorOf, registerAfter}
 use Rattle.registers.proofs.Table.{entered-by}
 use Rattle.cyclic.proofs.Checks.{length-check}
 use Rattle.cyclic.proofs.Methods.{check-of, width-3, width-4}
@@ -27,14 +27,6 @@ use Rattle.block.specs.Characters.{isOdd, withParity}
 use Rattle.block.specs.Check.{columnSums, matrixCheck, checkOf, xorAll, checkLength}
 
 -- ---- registers of the cyclic methods
-
-pub start-3 : lowBits 16 0xffff ≡ method3 .start
-unfolding lowBits method3
-start-3 = refl
-
-pub start-4 : lowBits 16 0 ≡ method4 .start
-unfolding lowBits method4
-start-4 = refl
 
 -- a register that began at a method's start, and the number made of it, hold the check of the bytes that entered
 pub register-check : (m : Parameters) → OfWidth 16 m → (g : Generator16) → generatorOf g ≡ m .generator → (bs : List ℕ) (check : ℕ) {start register : ℕ}

@@ -1,6 +1,7 @@
 // What the checks of a read and of a written block share: the limit of the count, the length of a check, and sums bit by bit.
 use crate::Method;
-use cyclic::Cyclic3;
+use cyclic3::Cyclic3;
+use cyclic4::Cyclic4;
 ghost use mathlib.Core.Path.{_≡_};
 ghost use Rattle.block.specs.Check.{checkLength, xorAll};
 
@@ -14,8 +15,8 @@ pub fn check_length(m: Method) -> usize
     match m {
         Method::Parity => 0,
         Method::Matrix => 1,
-        Method::Cyclic => 2,
-        Method::CyclicAlternative => 2,
+        Method::Cyclic => Cyclic3::WIDTH / 8,
+        Method::CyclicAlternative => Cyclic4::WIDTH / 8,
     }
 }
 

@@ -7,11 +7,11 @@ use block::is_clear;
 use block::sum_slice;
 use block::with_parity;
 use block_framing::Framing;
-use cyclic::Cyclic3;
-use cyclic::Cyclic4;
-use folding::Generator16;
-use folding::enter_one;
-use folding::enter_run;
+use cyclic3::Cyclic3;
+use cyclic4::Cyclic4;
+use generator16::Generator16;
+use generator16::enter_one;
+use generator16::enter_run;
 use registers::sent16;
 ghost use mathlib.Core.Path.{_≡_};
 ghost use mathlib.Core.Bool.{true, false};
@@ -20,7 +20,7 @@ ghost use lib.ListN.{length, drop};
 ghost use Rattle.bits.specs.Strings.{same};
 ghost use Rattle.bits.specs.Bytes.{lowBits, bitsOf};
 ghost use Rattle.cyclic.specs.Check.{checkBits, method3, method4};
-ghost use Rattle.folding.specs.Fold.{registerAfter};
+ghost use Rattle.generator16.specs.Register.{registerAfter};
 ghost use Rattle.block.specs.Characters.{isSeven};
 ghost use Rattle.block.specs.Check.{checkOf, checkLength, xorAll};
 ghost use Rattle.block_framing.specs.Framings.{countedIn, Ordered};
@@ -67,8 +67,9 @@ fn check_3(f: Framing, line: &[u8]) -> u16
     requires { ⌜ CountsKept false f (now line) ⌝ }
     ensures { λ r. ⌜ lowBits 16 r ≡ checkBits method3 (bitsOf (countedIn false f (now (line .entry)))) ⌝ }
 {
-    let register = enter_counted(Generator16::Ccitt, Cyclic3::START, f, line);
-    Cyclic3 { register }.check()
+    let mut cyclic = Cyclic3::new();
+    cyclic.register = enter_counted(Generator16::Ccitt, cyclic.register, f, line);
+    cyclic.check()
 }
 
 fn check_4(f: Framing, line: &[u8]) -> u16
@@ -76,8 +77,9 @@ fn check_4(f: Framing, line: &[u8]) -> u16
     requires { ⌜ CountsKept false f (now line) ⌝ }
     ensures { λ r. ⌜ lowBits 16 r ≡ checkBits method4 (bitsOf (countedIn false f (now (line .entry)))) ⌝ }
 {
-    let register = enter_counted(Generator16::Ibm, Cyclic4::START, f, line);
-    Cyclic4 { register }.check()
+    let mut cyclic = Cyclic4::new();
+    cyclic.register = enter_counted(Generator16::Ibm, cyclic.register, f, line);
+    cyclic.check()
 }
 
 // Whether two bytes at the place `at` are a check as it is sent.

@@ -7,9 +7,8 @@ use native.Mathlib.Omega.{arith}
 use mathlib.Core.Bool.{Bool, true, false}
 use mathlib.Core.List.{List, [], _∷_, _++_, map}
 use lib.Dec.{eqb}
-use lib.ListN.{length, getD, set, take, drop, length-append, length-map, take-append-drop, drop-of-length-le}
-use lib.Seq.{drop-cons, take-suc, take-suc-set, sets, sets-eq, length-sets}
-use Rattle.folding.proofs.WordLaws.{tail-of}
+use lib.ListN.{length, getD, set, take, drop, length-append, length-map, length-drop, take-append-drop, drop-of-length-le}
+use lib.Seq.{drop-cons, take-all, take-suc, take-suc-set, sets, sets-eq, length-sets}
 use Rattle.block.specs.Signs.{DLE}
 use Rattle.block.specs.Write.{doubled, escaped}
 use Rattle.block.proofs.Lists.{sets-append, map-append}
@@ -98,7 +97,8 @@ module _ (f : ℕ → ℕ) (part : List ℕ) (i : ℕ) where
       rw (add-one, take-suc-set bytes i (f (getD part i 0)) l, take-suc part i 0 h, map-append f (take i part) (getD part i 0 ∷ []), e)
 
   pub map-parts : map f (take i part) ++ map f (take (length part - i) (drop i part)) ≡ map f part
-  map-parts = rw (tail-of part i) (sym (map-append f (take i part) (drop i part)) ∙ ap (map f) (take-append-drop i part))
+  map-parts =
+      rw (take-all (length part - i) (drop i part) (omega (arith, length-drop i part))) (sym (map-append f (take i part) (drop i part)) ∙ ap (map f) (take-append-drop i part))
 
 doubled-append : (t : Bool) (b : ℕ) (bs : List ℕ) → doubled t b bs ≡ doubled t b [] ++ bs
 doubled-append true b bs = refl

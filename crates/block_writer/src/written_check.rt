@@ -5,16 +5,16 @@ use block::STX;
 use block::Shape;
 use block::end_byte;
 use block::sum_slice;
-use cyclic::Cyclic3;
-use cyclic::Cyclic4;
-use folding::Generator16;
-use folding::enter_one;
-use folding::enter_run;
+use cyclic3::Cyclic3;
+use cyclic4::Cyclic4;
+use generator16::Generator16;
+use generator16::enter_one;
+use generator16::enter_run;
 use registers::sent16;
 ghost use mathlib.Core.Path.{_≡_};
 ghost use Rattle.bits.specs.Bytes.{bitsOf, pack};
 ghost use Rattle.cyclic.specs.Check.{checkBits, method3, method4};
-ghost use Rattle.folding.specs.Fold.{registerAfter};
+ghost use Rattle.generator16.specs.Register.{registerAfter};
 ghost use Rattle.block.specs.Check.{xorAll};
 ghost use Rattle.block.specs.Write as rule;
 ghost use Rattle.block_writer.specs.Writing.{checkedBytes};
@@ -53,16 +53,18 @@ pub fn check_3(shape: Shape, end: EndSign, header: &[u8], text: &[u8]) -> [u8; 2
     ensures { λ r. ⌜ r ≡ pack (checkBits method3 (bitsOf (checkedBytes shape end (now (header .entry)) (now (text .entry))))) ⌝ }
 {
     let g = Generator16::Ccitt;
-    let register = written_register(g, Cyclic3::START, shape, end, header, text);
-    sent16(Cyclic3 { register }.check())
+    let mut cyclic = Cyclic3::new();
+    cyclic.register = written_register(g, cyclic.register, shape, end, header, text);
+    sent16(cyclic.check())
 }
 
 pub fn check_4(shape: Shape, end: EndSign, header: &[u8], text: &[u8]) -> [u8; 2]
     ensures { λ r. ⌜ r ≡ pack (checkBits method4 (bitsOf (checkedBytes shape end (now (header .entry)) (now (text .entry))))) ⌝ }
 {
     let g = Generator16::Ibm;
-    let register = written_register(g, Cyclic4::START, shape, end, header, text);
-    sent16(Cyclic4 { register }.check())
+    let mut cyclic = Cyclic4::new();
+    cyclic.register = written_register(g, cyclic.register, shape, end, header, text);
+    sent16(cyclic.check())
 }
 
 // The inner start enters the sums of method 2.

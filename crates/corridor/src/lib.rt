@@ -3,10 +3,10 @@
 // and refusals go by document 01's numbers; 0 is success. Every input is taken: a code outside its list answers 1, with an
 // answer of zeros. The output keeps every byte that a success does not name. Bit 0 of a check is its highest power and is sent
 // first.
-use cyclic::Cyclic3;
-use cyclic::Cyclic4;
-use cyclic::Cyclic5;
-use cyclic::Cyclic6;
+use cyclic3::Cyclic3;
+use cyclic4::Cyclic4;
+use cyclic5::Cyclic5;
+use cyclic6::Cyclic6;
 ghost use mathlib.Core.Path.{_≡_};
 ghost use Rattle.bits.specs.Bytes.{lowBits, bitsOf};
 ghost use Rattle.cyclic.specs.Check.{checkBits, method3, method4, method5, method6};

@@ -1,5 +1,6 @@
 -- The cyclic checks of 003, appendices 1 to 3, over a content of any number of bits. Assumes nothing.
 use mathlib.Core.Path.{_≡_}
+use mathlib.Core.Logic.{_↔_}
 use Prim.Native.Nat.{ℕ}
 use mathlib.Core.Bool.{Bool, true, false}
 use mathlib.Core.List.{List, _++_}
@@ -56,3 +57,7 @@ pub record Constants (m : Parameters) (register width polynomial start limit : �
   pub polynomial-is : lowBits width polynomial ≡ m .generator
   pub start-is : lowBits width start ≡ m .start
   pub limit-is : limit ≡ m .limit
+
+-- a receiver, which takes content and check together through the formula, finds this remainder if and only if the check is the rule's
+abbrev pub Receives : Parameters → ℕ → List Bool → Type 0
+Receives m w residue = (c s : List Bool) → length s ≡ w → (formula m (c ++ s) ≡ residue) ↔ (s ≡ checkBits m c)

@@ -9,7 +9,7 @@ use Rattle.bits.specs.Strings.{xorBits, zeros, ones}
 use Rattle.division.specs.Division.{remainder, Divides}
 use Rattle.division.specs.Generators.{ibm16, receiver16, receiver32}
 use Rattle.division.specs.Laws.{Generator}
-use Rattle.cyclic.specs.Check.{Parameters, formula, checkBits, checkedBits, method3, method4, method5, method6}
+use Rattle.cyclic.specs.Check.{Parameters, checkBits, checkedBits, Receives, method3, method4, method5, method6}
 
 -- parameters of width w
 pub record OfWidth (w : ℕ) (m : Parameters) : Type 0 where
@@ -25,14 +25,9 @@ residueIf false w p = zeros w
 
 -- content and check leave this remainder if and only if the check is the rule's
 abbrev pub ReceiverLaw : Type 0
-ReceiverLaw =
-    (w : ℕ) (m : Parameters) → OfWidth w m → (c s : List Bool) → length s ≡ w
-    → (formula m (c ++ s) ≡ residueIf (m .inverted) w (m .generator)) ↔ (s ≡ checkBits m c)
+ReceiverLaw = (w : ℕ) (m : Parameters) → OfWidth w m → Receives m w (residueIf (m .inverted) w (m .generator))
 
 -- in the numbers of the appendices
-abbrev pub Receives : Parameters → ℕ → List Bool → Type 0
-Receives m w residue = (c s : List Bool) → length s ≡ w → (formula m (c ++ s) ≡ residue) ↔ (s ≡ checkBits m c)
-
 pub record Receivers : Type 0 where
   pub method-3 : Receives method3 16 receiver16
   pub method-4 : Receives method4 16 (zeros 16)

@@ -1,13 +1,2 @@
-// The cyclic checks of methods 3 to 6 (003 par. 2.1 and 2.2, appendices 1 to 3): a type for each method, with its constants.
-// A content enters as a whole slice (`enter`, crate `folding`), or byte by byte through the method's table (crate `registers`).
-// Every function takes every input; its contract gives the result by the formulas of the appendices.
-mod method3;
-mod method4;
-mod method5;
-mod method6;
-mod tables;
-
-pub use method3::Cyclic3;
-pub use method4::Cyclic4;
-pub use method5::Cyclic5;
-pub use method6::Cyclic6;
+// The cyclic checks of methods 3 to 6 (003 par. 2.1 and 2.2, appendices 1 to 3): the formulas of the appendices, what a receiver
+// finds, and what a register holds. Crates `cyclic3` to `cyclic6` have a type for each method. The crate has no functions.

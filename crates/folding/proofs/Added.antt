@@ -1,31 +1,29 @@
--- Bits with what is yet to be added to them: word by word, byte by byte, and where nothing is left to add. Assumes nothing.
+-- Bits with what is yet to be added to them: a part after the other, and where nothing is left to add. Assumes nothing.
 use mathlib.Core.Path.{_≡_, refl, sym, ap, _∙_}
-use Prim.Native.Nat.{ℕ, _+_, _-_, _*_, _≤_}
+use Prim.Native.Nat.{ℕ, suc, _+_, _-_, _≤_}
 use native.Mathlib.Nat.{add-comm}
 use native.Mathlib.Omega.{arith}
 use mathlib.Core.Bool.{Bool, xor}
 use mathlib.Core.List.{List, [], _∷_, _++_, append-assoc, append-nil}
-use lib.ListN.{length, take, drop, length-append, take-append-drop}
-use lib.Seq.{length-take-le}
+use lib.ListN.{length, length-append}
 use Rattle.bits.specs.Strings.{xorBits, zeros}
-use Rattle.bits.specs.Bytes.{bitsOf}
-use Rattle.bits.proofs.Strings.{length-zeros, xorBits-zeros, xorBits-append, zeros-append}
-use Rattle.bits.proofs.Bytes.{length-bitsOf, bitsOf-append}
+use Rattle.bits.proofs.Strings.{length-zeros, xorBits-nil, xorBits-assoc, xorBits-zeros, xorBits-append, zeros-append}
 use Rattle.registers.specs.Register.{enter, entered}
 use Rattle.folding.specs.Fold.{added}
-use Rattle.registers.proofs.Entered.{begins}
-use Rattle.folding.proofs.Turn.{pendingBits}
+use Rattle.registers.proofs.Entered.{zeros-twice, begins}
 
 -- a sum goes as far as the shorter string
 xorBits-short : (a b m : List Bool) → length m ≤ length a → xorBits (a ++ b) m ≡ xorBits a m
-xorBits-short [] b [] h = none b
-  where
-    none : (c : List Bool) → xorBits c [] ≡ []
-    none [] = refl
-    none (x ∷ c) = refl
+xorBits-short [] b [] h = xorBits-nil b
 xorBits-short [] b (y ∷ m) h = absurd (omega arith)
 xorBits-short (x ∷ a) b [] h = refl
 xorBits-short (x ∷ a) b (y ∷ m) h = ap (λ (s : List Bool). xor x y ∷ s) (xorBits-short a b m (omega arith))
+
+length-short : (a m : List Bool) → length m ≤ length a → length (xorBits a m) ≡ length m
+length-short [] [] h = refl
+length-short [] (y ∷ m) h = absurd (omega arith)
+length-short (x ∷ a) [] h = refl
+length-short (x ∷ a) (y ∷ m) h = ap suc (length-short a m (omega arith))
 
 pub added-none : (k : ℕ) (m : List Bool) → added (zeros k) m ≡ m
 unfolding added
@@ -34,13 +32,7 @@ added-none k m =
     ∙ xorBits-short (zeros (length m)) (zeros k) m (omega (arith, length-zeros (length m)))
     ∙ xorBits-zeros (length m) m refl
 
--- what is pending beyond the bits does not count, nor do zeros
-pub added-short : (a b m : List Bool) → length m ≤ length a → added (a ++ b) m ≡ added a m
-unfolding added
-added-short a b m h =
-    ap (λ z. xorBits z m) (append-assoc a b (zeros (length m))) ∙ xorBits-short a (b ++ zeros (length m)) m h
-    ∙ sym (xorBits-short a (zeros (length m)) m h)
-
+-- zeros do not count
 pub added-zeros : (a m : List Bool) (k : ℕ) → added (a ++ zeros k) m ≡ added a m
 unfolding added
 added-zeros a m k =
@@ -66,13 +58,19 @@ added-append a b m n h =
 pub added-whole : (a m n : List Bool) → length a ≡ length m → added a (m ++ n) ≡ xorBits a m ++ n
 added-whole a m n h = ap (λ z. added z (m ++ n)) (sym (append-nil a)) ∙ added-append a [] m n h ∙ ap (λ z. xorBits a m ++ z) (added-none 0 n)
 
-pub pending-added : (n : ℕ) (pending : List Bool) (content : List ℕ) → length pending ≡ 8 * n → n ≤ length content
-    → pendingBits n pending content ≡ added pending (bitsOf content)
-unfolding pendingBits
-pending-added n pending content l h =
-    let m = take n content in
-    sym (ap (added pending) (ap bitsOf (sym (take-append-drop n content)) ∙ bitsOf-append m (drop n content))
-    ∙ added-whole pending (bitsOf m) (bitsOf (drop n content)) (l ∙ sym (length-bitsOf m ∙ ap (λ i. 8 * i) (length-take-le n content h))))
+pub length-added : (a m : List Bool) → length (added a m) ≡ length m
+unfolding added
+length-added a m = length-short (a ++ zeros (length m)) m (omega (arith, length-append a (zeros (length m)), length-zeros (length m)))
+
+-- two strings, one after the other or both at once
+pub added-twice : (a b m : List Bool) → length a ≡ length b → added a (added b m) ≡ added (xorBits a b) m
+unfolding added
+added-twice a b m h =
+    let k = length m in
+    let z = zeros k in
+    ap (λ n. xorBits (a ++ zeros n) (added b m)) (length-added b m)
+    ∙ sym (xorBits-assoc (a ++ z) (b ++ z) m)
+    ∙ ap (λ x. xorBits x m) (xorBits-append a b z z h ∙ ap (λ x. xorBits a b ++ x) (zeros-twice k))
 
 -- a register is what is yet to be added to the first bits
 pub begins-added : (p r m : List Bool) → length r ≡ length p → length p ≤ length m → enter p r m ≡ entered p (added r m)

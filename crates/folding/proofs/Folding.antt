@@ -1,179 +1,191 @@
 -- The loops over a content, for every generator and every number of words: words folded away, words entered, bytes entered. Each
 -- has what is left, with what is yet to be added to it, give the whole. Assumes nothing.
 use mathlib.Core.Path.{_≡_, refl, sym, ap, ap₂, _∙_}
-use Prim.Native.Nat.{ℕ, _+_, _-_, _*_, _/_, _%_, _^_, _≤_, _<_}
+use Prim.Native.Nat.{ℕ, zero, suc, _+_, _-_, _*_, _/_, _^_, _≤_, _<_}
 use native.Mathlib.Nat.{div-eq-of-lt}
 use native.Mathlib.Numerals.{add-one}
 use native.Mathlib.Omega.{arith}
-use mathlib.Core.Bool.{Bool, true}
+use mathlib.Core.Bool.{Bool}
 use mathlib.Core.List.{List, [], _∷_, _++_, append-assoc}
 use lib.Bits.{bitXor}
 use lib.ListN.{length, take, drop, getD, length-drop, take-append-drop, drop-of-length-le}
 use lib.Seq.{drop-cons, drop-drop}
-use Rattle.bits.specs.Strings.{xorBits, zeros}
+use Rattle.bits.specs.Strings.{zeros}
 use Rattle.bits.specs.Bytes.{lowBits, bitsOf}
-use Rattle.bits.specs.Differences.{Each}
-use Rattle.bits.proofs.Strings.{zeros-append, xorBits-nil}
-use Rattle.bits.proofs.Bytes.{length-lowBits, lowBits-zero, lowBits-append, lowBits-xor, lowBits-mod, length-bitsOf, bitsOf-append}
+use Rattle.bits.proofs.Strings.{zeros-append}
+use Rattle.bits.proofs.Bytes.{length-lowBits, lowBits-zero, lowBits-append, lowBits-xor, length-bitsOf, bitsOf-append}
 use Rattle.registers.specs.Register.{enter, entered}
 use Rattle.registers.proofs.Enter.{enter-append}
-use Rattle.folding.specs.Fold.{foldedBits, added}
-use Rattle.folding.proofs.Fold.{Powers}
-use Rattle.folding.proofs.Turn.{pendingBits, turns}
-use Rattle.folding.proofs.WordLaws.{tail-of}
-use Rattle.folding.proofs.Added.{added-none, added-append, added-zeros, added-short, pending-added, begins-added}
+use Rattle.folding.specs.Fold.{wordBits, foldedBits, added, EndsWithin}
+use Rattle.folding.proofs.Added.{added-none, added-append, added-zeros, begins-added}
+use Rattle.folding.proofs.Turn.{turns}
+use Rattle.folding.proofs.Multiples.{Multiple}
+use Rattle.folding.proofs.WordLaws.{length-words, zeroWords, zero-words, placed, shift-words}
+
+-- the word at i, and what follows it
+next-word : (content : List ℕ) (i : ℕ) → bitsOf (take 8 (drop (8 * i) content)) ++ bitsOf (drop (8 * (i + 1)) content) ≡ bitsOf (drop (8 * i) content)
+next-word content i =
+    let rest = drop (8 * i) content in
+    let s : 8 * i + 8 ≡ 8 * (i + 1) = omega arith in
+    ap (λ x. bitsOf (take 8 rest) ++ bitsOf x) (ap (λ m. drop m content) (sym s) ∙ sym (drop-drop 8 (8 * i) content))
+    ∙ sym (bitsOf-append (take 8 rest) (drop 8 rest)) ∙ ap bitsOf (take-append-drop 8 rest)
+
+-- ---- where what is yet to be added ends
+
+ends-long : (n : ℕ) (ws : List ℕ) → length ws ≤ n → EndsWithin n ws
+unfolding EndsWithin
+ends-long n [] h = tt
+ends-long zero (w ∷ ws) h = absurd (omega arith)
+ends-long (suc n) (w ∷ ws) h = ends-long n ws (omega arith)
+
+ends-zeros : (n k : ℕ) → EndsWithin n (zeroWords k)
+unfolding EndsWithin
+ends-zeros n zero = tt
+ends-zeros zero (suc k) = (refl, ends-zeros zero k)
+ends-zeros (suc n) (suc k) = ends-zeros n k
+
+ends-first : (n w k : ℕ) → 0 < n → EndsWithin n (w ∷ zeroWords k)
+unfolding EndsWithin
+ends-first zero w k pos = absurd (omega arith)
+ends-first (suc n) w k pos = ends-zeros n k
+
+ends-behind : (n : ℕ) (ws : List ℕ) → EndsWithin n ws → EndsWithin n (ws ++ 0 ∷ [])
+unfolding EndsWithin
+ends-behind zero [] h = (refl, tt)
+ends-behind (suc n) [] h = tt
+ends-behind zero (w ∷ ws) h = (h .0, ends-behind zero ws (h .1))
+ends-behind (suc n) (w ∷ ws) h = ends-behind n ws h
+
+-- one word behind the first
+ends-on : (n m w : ℕ) (ws : List ℕ) → n ≡ suc m → EndsWithin n (w ∷ ws) → EndsWithin m (ws ++ 0 ∷ [])
+unfolding EndsWithin
+ends-on n m w ws e h = ends-behind m ws (rw e at h)
+
+all-zero : (ws : List ℕ) → EndsWithin zero ws → ws ≡ zeroWords (length ws)
+unfolding EndsWithin
+all-zero [] h = refl
+all-zero (w ∷ ws) h = ap₂ (λ x xs. x ∷ xs) (h .0) (all-zero ws (h .1))
+
+nothing-left : (ws : List ℕ) (m : List Bool) → EndsWithin zero ws → added (wordBits ws) m ≡ m
+nothing-left ws m h = ap (λ x. added x m) (ap wordBits (all-zero ws h) ∙ zero-words (length ws)) ∙ added-none (64 * length ws) m
 
 -- ---- words folded away
 
-pub record Folding (p : List Bool) (w start : ℕ) (content : List ℕ) (pending : List Bool) (i : ℕ) : Type 0 where
-  pub left : entered p (added pending (bitsOf (drop (8 * i) content))) ≡ enter p (lowBits w start) (bitsOf content)
+pub record Folding (p : List Bool) (w start : ℕ) (content first pending : List ℕ) (i : ℕ) : Type 0 where
+  pub left : entered p (added (wordBits pending) (bitsOf (drop (8 * i) content))) ≡ enter p (lowBits w start) (bitsOf content)
+  pub begun : i ≡ 0 → pending ≡ first
 
--- a register of w bits, as a word before words of zero
-pub register-words : (w j start k : ℕ) → start < 2 ^ w → lowBits (w + j) start ++ zeros k ≡ lowBits w start ++ zeros (j + k)
-register-words w j start k fits =
+-- a register of w bits is what is yet to be added to the first of k + 1 words
+pub begin : {w : ℕ} {p : List Bool} {n : ℕ} {es : List ℕ} → Multiple w p n es → (j k start : ℕ) (content : List ℕ) → w + j ≡ 64 → start < 2 ^ w → 8 ≤ length content
+    → Folding p w start content (start ∷ zeroWords k) (start ∷ zeroWords k) 0
+begin {w} {p} multiple j k start content word fits h =
     let r = lowBits w start in
-    ap (λ z. z ++ zeros k) (lowBits-append w j start ∙ ap (λ z. r ++ z) (ap (lowBits j) (div-eq-of-lt fits) ∙ lowBits-zero j))
-    ∙ append-assoc r (zeros j) (zeros k) ∙ ap (λ z. r ++ z) (zeros-append j k)
-
-pub begin : (p : List Bool) (w k start : ℕ) (content : List ℕ) (pending : List Bool) → length p ≡ w → w ≤ 8 * length content
-    → pending ≡ lowBits w start ++ zeros k → Folding p w start content pending 0
-begin p w k start content pending wide h e =
-    let r = lowBits w start in
+    let one : lowBits 64 start ≡ r ++ zeros j =
+    ap (λ x. lowBits x start) (sym word) ∙ lowBits-append w j start ∙ ap (λ z. r ++ z) (ap (lowBits j) (div-eq-of-lt fits) ∙ lowBits-zero j) in
+    let all : wordBits (start ∷ zeroWords k) ≡ r ++ zeros (j + 64 * k) =
+    sym (placed start k) ∙ ap (λ z. z ++ zeros (64 * k)) one ∙ append-assoc r (zeros j) (zeros (64 * k)) ∙ ap (λ z. r ++ z) (zeros-append j (64 * k)) in
     record {
       left =
-          ap (λ z. entered p (added z (bitsOf content))) e ∙ ap (entered p) (added-zeros r (bitsOf content) k)
-          ∙ sym (begins-added p r (bitsOf content) (length-lowBits w start ∙ sym wide) (omega (arith, length-bitsOf content)));
+          ap (λ z. entered p (added z (bitsOf content))) all ∙ ap (entered p) (added-zeros r (bitsOf content) (j + 64 * k))
+          ∙ sym (begins-added p r (bitsOf content) (length-lowBits w start ∙ sym (multiple .width)) (omega (arith, multiple .width, length-bitsOf content)));
+      begun = λ e. refl;
     }
 
-pub turn : {p : List Bool} {w start : ℕ} {content : List ℕ} {pending : List Bool} {i : ℕ} (k : ℕ) (es : List ℕ) → Powers p (64 + 8 * k) es (true ∷ [])
-    → Each (λ e. e + 64 ≤ 64 + 8 * k) es → (word : ℕ) (next : List Bool) → Folding p w start content pending i → length pending ≡ 64 + 8 * k → length next ≡ 64 + 8 * k
-    → 8 * i + (16 + k) ≤ length content → lowBits 64 word ≡ bitsOf (take 8 (drop (8 * i) content))
-    → next ≡ foldedBits (64 + 8 * k) es pending (lowBits 64 word) → Folding p w start content next (i + 1)
-turn {p} {w} {start} {content} {pending} {i} k es one far word next h l ln room e f =
-    let rest = drop (8 * i) content in
-    let lr : length rest ≡ length content - 8 * i = length-drop (8 * i) content in
-    let s : 8 * i + 8 ≡ 8 * (i + 1) = omega arith in
-    let d : drop 8 rest ≡ drop (8 * (i + 1)) content = drop-drop 8 (8 * i) content ∙ ap (λ m. drop m content) s in
+pub turn : {w : ℕ} {p : List Bool} {n : ℕ} {es : List ℕ} {start i : ℕ} {content first : List ℕ} {a : ℕ} {ws next : List ℕ} → Multiple w p n es → 64 * suc (length ws) ≡ n
+    → (word : ℕ) → Folding p w start content first (a ∷ ws) i → 8 * i + (8 + 8 * suc (length ws)) ≤ length content
+    → lowBits 64 word ≡ bitsOf (take 8 (drop (8 * i) content)) → wordBits next ≡ foldedBits n es (wordBits (a ∷ ws)) (lowBits 64 word)
+    → Folding p w start content first next (i + 1)
+turn {w} {p} {n} {es} {start} {i} {content} {first} {a} {ws} {next} multiple size word h room e f =
+    let m = bitsOf (take 8 (drop (8 * i) content)) in
+    let y = drop (8 * (i + 1)) content in
     record {
       left =
-          ap (λ x. entered p (added next (bitsOf x))) (sym d)
-          ∙ ap (entered p) (sym (pending-added (8 + k) next (drop 8 rest) (omega arith) (omega (arith, length-drop 8 rest))))
-          ∙ ap (λ x. entered p (pendingBits (8 + k) x (drop 8 rest))) (f ∙ ap (foldedBits (64 + 8 * k) es pending) e)
-          ∙ sym (turns p k es one far pending rest l (omega arith))
-          ∙ ap (entered p) (pending-added (8 + k) pending rest (omega arith) (omega arith))
+          ap (λ x. entered p (added x (bitsOf y))) (f ∙ ap (foldedBits n es (wordBits (a ∷ ws))) e)
+          ∙ sym (turns p n es (multiple .one) (multiple .far) (wordBits (a ∷ ws)) m (bitsOf y) (length-words (a ∷ ws) ∙ size) (omega arith)
+          (ap length (sym e) ∙ length-lowBits 64 word) (omega (arith, length-bitsOf y, length-drop (8 * (i + 1)) content)))
+          ∙ ap (λ x. entered p (added (wordBits (a ∷ ws)) x)) (next-word content i) ∙ h .left;
+      begun = λ z. absurd (omega arith);
+    }
+
+-- where all words that are to be folded are folded
+module _ {p : List Bool} {w start : ℕ} {content pending : List ℕ} {i : ℕ} (k words : ℕ) (h : Folding p w start content (start ∷ zeroWords k) pending i) (e : i ≡ words) where
+  pub folded : entered p (added (wordBits pending) (bitsOf (drop (8 * words) content))) ≡ enter p (lowBits w start) (bitsOf content)
+  folded = ap (λ j. entered p (added (wordBits pending) (bitsOf (drop (8 * j) content)))) (sym e) ∙ h .left
+
+  pub folded-within : 8 ≤ length content → (0 < words → 8 * words + 8 * length pending ≤ length content) → EndsWithin (length content / 8 - words) pending
+  folded-within long room = go words e room
+    where
+      go : (m : ℕ) → i ≡ m → (0 < m → 8 * m + 8 * length pending ≤ length content) → EndsWithin (length content / 8 - m) pending
+      go zero z r = rw (h .begun z) (ends-first (length content / 8 - 0) start k (omega arith))
+      go (suc m) z r = let l = r (omega arith) in ends-long (length content / 8 - suc m) pending (omega arith)
+
+-- ---- words entered from one on, each with what is yet to be added to it
+
+pub record Words (p : List Bool) (w : ℕ) (first content : List ℕ) (from words register : ℕ) (pending : List ℕ) (i : ℕ) : Type 0 where
+  pub left : enter p (lowBits w register) (added (wordBits pending) (bitsOf (drop (8 * i) content))) ≡ entered p (added (wordBits first) (bitsOf (drop (8 * from) content)))
+  pub ends : EndsWithin (words - i) pending
+
+pub begin-words : {p : List Bool} {w : ℕ} {first content : List ℕ} {from words : ℕ} → length p ≡ w → EndsWithin (words - from) first
+    → Words p w first content from words 0 first from
+begin-words {p} {w} {first} {content} {from} wide h =
+    record {
+      left = ap (λ r. enter p r (added (wordBits first) (bitsOf (drop (8 * from) content)))) (lowBits-zero w ∙ ap zeros (sym wide));
+      ends = h;
+    }
+
+pub turn-words : {p : List Bool} {w : ℕ} {first content : List ℕ} {from words register i a : ℕ} {ws : List ℕ} (word r : ℕ) → Words p w first content from words register (a ∷ ws) i
+    → i < words → lowBits 64 word ≡ bitsOf (take 8 (drop (8 * i) content)) → lowBits w r ≡ enter p (lowBits w register) (lowBits 64 (bitXor a word))
+    → Words p w first content from words r (ws ++ 0 ∷ []) (i + 1)
+unfolding wordBits
+turn-words {p} {w} {content = content} {words = words} {register = register} {i = i} {a = a} {ws = ws} word r h below e f =
+    let m = bitsOf (drop (8 * (i + 1)) content) in
+    let x = lowBits 64 (bitXor a word) in
+    let reg = lowBits w register in
+    record {
+      left =
+          ap₂ (λ y z. enter p y (added z m)) f (sym (shift-words ws))
+          ∙ ap (enter p (enter p reg x)) (added-zeros (wordBits ws) m 64) ∙ sym (enter-append p reg x (added (wordBits ws) m))
+          ∙ ap (enter p reg)
+          (ap (λ y. y ++ added (wordBits ws) m) (lowBits-xor 64 a word)
+          ∙ sym (added-append (lowBits 64 a) (wordBits ws) (lowBits 64 word) m (length-lowBits 64 a ∙ sym (length-lowBits 64 word)))
+          ∙ ap (added (wordBits (a ∷ ws))) (ap (λ y. y ++ m) e ∙ next-word content i))
           ∙ h .left;
+      ends = ends-on (words - i) (words - (i + 1)) a ws (omega arith) (h .ends);
     }
 
-pub folded : {p : List Bool} {w start : ℕ} {content : List ℕ} {pending : List Bool} {i : ℕ} (words : ℕ) → Folding p w start content pending i → i ≡ words
-    → entered p (added pending (bitsOf (drop (8 * words) content))) ≡ enter p (lowBits w start) (bitsOf content)
-folded {p} {content = content} {pending = pending} words h e = ap (λ i. entered p (added pending (bitsOf (drop (8 * i) content)))) (sym e) ∙ h .left
-
--- ---- words entered, each with what is yet to be added to it
-
-pub record Words (p : List Bool) (w : ℕ) (first : List Bool) (content : List ℕ) (register : ℕ) (pending : List Bool) (i : ℕ) : Type 0 where
-  pub left : enter p (lowBits w register) (added pending (bitsOf (drop (8 * i) content))) ≡ entered p (added first (bitsOf content))
-
-pub begin-words : (p : List Bool) (w : ℕ) (first : List Bool) (content : List ℕ) → length p ≡ w → Words p w first content 0 first 0
-begin-words p w first content wide = record { left = ap (λ r. enter p r (added first (bitsOf content))) (lowBits-zero w ∙ ap zeros (sym wide)) }
-
-pub turn-words : {p : List Bool} {w : ℕ} {first : List Bool} {content : List ℕ} {register : ℕ} {i : ℕ} (a word r : ℕ) (others next : List Bool)
-    → Words p w first content register (lowBits 64 a ++ others) i → 8 * i + 8 ≤ length content → lowBits 64 word ≡ bitsOf (take 8 (drop (8 * i) content))
-    → lowBits w r ≡ enter p (lowBits w register) (lowBits 64 (bitXor a word)) → next ≡ others ++ zeros 64 → Words p w first content r next (i + 1)
-turn-words {p} {w} {first} {content} {register} {i} a word r others next h room e f n =
-    let rest = drop (8 * i) content in
-    let m = bitsOf (drop 8 rest) in
-    let s : 8 * i + 8 ≡ 8 * (i + 1) = omega arith in
-    let d : drop 8 rest ≡ drop (8 * (i + 1)) content = drop-drop 8 (8 * i) content ∙ ap (λ k. drop k content) s in
-    record {
-      left =
-          ap₂ (λ x y. enter p x (added y (bitsOf (drop (8 * (i + 1)) content)))) f n
-          ∙ ap (λ x. enter p (enter p (lowBits w register) (lowBits 64 (bitXor a word))) (added (others ++ zeros 64) (bitsOf x))) (sym d)
-          ∙ ap (enter p (enter p (lowBits w register) (lowBits 64 (bitXor a word)))) (added-zeros others m 64)
-          ∙ sym (enter-append p (lowBits w register) (lowBits 64 (bitXor a word)) (added others m))
-          ∙ ap (enter p (lowBits w register))
-          (ap (λ x. x ++ added others m) (lowBits-xor 64 a word)
-          ∙ sym (added-append (lowBits 64 a) others (lowBits 64 word) m (length-lowBits 64 a ∙ sym (length-lowBits 64 word)))
-          ∙ ap (added (lowBits 64 a ++ others)) (ap (λ x. x ++ m) e ∙ sym (bitsOf-append (take 8 rest) (drop 8 rest)) ∙ ap bitsOf (take-append-drop 8 rest)))
-          ∙ h .left;
-    }
-
--- what is pending to the bytes behind the words is one word
-pub all-words : {p : List Bool} {w : ℕ} {first : List Bool} {content : List ℕ} {register : ℕ} {i : ℕ} (a : ℕ) (others : List Bool)
-    → Words p w first content register (lowBits 64 a ++ others) i → i ≡ length content / 8
-    → enter p (lowBits w register) (added (lowBits 64 a) (bitsOf (drop (8 * (length content / 8)) content))) ≡ entered p (added first (bitsOf content))
-all-words {p} {w} {first} {content} {register} {i} a others h e =
-    let rest = drop (8 * i) content in
-    ap (λ k. enter p (lowBits w register) (added (lowBits 64 a) (bitsOf (drop (8 * k) content)))) (sym e)
-    ∙ ap (enter p (lowBits w register))
-    (sym (added-short (lowBits 64 a) others (bitsOf rest) (omega (arith, length-lowBits 64 a, length-bitsOf rest, length-drop (8 * i) content))))
+-- nothing is yet to be added to the bytes behind the words
+pub all-words : {p : List Bool} {w : ℕ} {first content : List ℕ} {from words register i : ℕ} {pending : List ℕ} → Words p w first content from words register pending i → i ≡ words
+    → enter p (lowBits w register) (bitsOf (drop (8 * words) content)) ≡ entered p (added (wordBits first) (bitsOf (drop (8 * from) content)))
+all-words {p} {w} {content = content} {words = words} {register = register} {i = i} {pending = pending} h e =
+    let none : words - i ≡ 0 = omega arith in
+    ap (λ k. enter p (lowBits w register) (bitsOf (drop (8 * k) content))) (sym e)
+    ∙ ap (enter p (lowBits w register)) (sym (nothing-left pending (bitsOf (drop (8 * i) content)) (rw none at (h .ends))))
     ∙ h .left
 
--- ---- bytes entered, each with what is yet to be added to it
+-- ---- bytes entered from one on
 
-pub record ByBytes (p : List Bool) (w start pending : ℕ) (content : List ℕ) (register rest i : ℕ) : Type 0 where
+pub record ByBytes (p : List Bool) (w start : ℕ) (content : List ℕ) (from register i : ℕ) : Type 0 where
   pub within : i ≤ length content
-  pub small : rest < 2 ^ 64
-  pub left : enter p (lowBits w register) (added (lowBits 64 rest) (bitsOf (drop i content))) ≡ enter p (lowBits w start) (added (lowBits 64 pending) (bitsOf content))
+  pub left : enter p (lowBits w register) (bitsOf (drop i content)) ≡ enter p (lowBits w start) (bitsOf (drop from content))
 
-pub begin-bytes : (p : List Bool) (w start pending : ℕ) (content : List ℕ) → pending < 2 ^ 64 → ByBytes p w start pending content start pending 0
-begin-bytes p w start pending content h = record { within = omega arith; small = h; left = refl }
+pub begin-bytes : {p : List Bool} {w start : ℕ} {content : List ℕ} {from : ℕ} → from ≤ length content → ByBytes p w start content from start from
+begin-bytes h = record { within = h; left = refl }
 
-pub turn-bytes : {p : List Bool} {w start pending : ℕ} {content : List ℕ} {register rest i : ℕ} (low r : ℕ) → ByBytes p w start pending content register rest i
-    → i < length content → low ≡ rest % 256 → lowBits w r ≡ enter p (lowBits w register) (lowBits 8 (bitXor low (getD content i 0)))
-    → ByBytes p w start pending content r (rest / 256) (i + 1)
+pub turn-bytes : {p : List Bool} {w start : ℕ} {content : List ℕ} {from register i : ℕ} (r : ℕ) → ByBytes p w start content from register i
+    → i < length content → lowBits w r ≡ enter p (lowBits w register) (lowBits 8 (getD content i 0)) → ByBytes p w start content from r (i + 1)
 unfolding bitsOf
-turn-bytes {p} {w} {start} {pending} {content} {register} {rest} {i} low r h below l f =
+turn-bytes {p} {w} {content = content} {register = register} {i = i} r h below f =
     let b = getD content i 0 in
     let m = bitsOf (drop (i + 1) content) in
-    let x = lowBits 8 (bitXor low b) in
-    let up = lowBits 56 (rest / 256) in
-    let more : lowBits 64 (rest / 256) ≡ up ++ zeros 8 =
-    lowBits-append 56 8 (rest / 256) ∙ ap (λ z. up ++ z) (ap (lowBits 8) (div-eq-of-lt (below-56 rest (h .small))) ∙ lowBits-zero 8) in
     let here : drop i content ≡ b ∷ drop (i + 1) content = drop-cons content i 0 below ∙ ap (λ k. b ∷ drop k content) (sym (add-one i)) in
     record {
       within = omega arith;
-      small = omega (arith, h .small);
       left =
-          ap₂ (λ y z. enter p y (added z m)) f more ∙ ap (enter p (enter p (lowBits w register) x)) (added-zeros up m 8)
-          ∙ sym (enter-append p (lowBits w register) x (added up m))
-          ∙ ap (enter p (lowBits w register))
-          (ap (λ z. z ++ added up m) (lowBits-xor 8 low b ∙ ap (λ z. xorBits z (lowBits 8 b)) (ap (lowBits 8) l ∙ lowBits-mod 8 rest))
-          ∙ sym (added-append (lowBits 8 rest) up (lowBits 8 b) m (length-lowBits 8 rest ∙ sym (length-lowBits 8 b)))
-          ∙ ap₂ (λ y z. added y (bitsOf z)) (sym (lowBits-append 8 56 rest)) (sym here))
-          ∙ h .left;
+          ap (λ x. enter p x m) f ∙ sym (enter-append p (lowBits w register) (lowBits 8 b) m) ∙ ap (λ x. enter p (lowBits w register) (bitsOf x)) (sym here) ∙ h .left;
     }
-  where
-    below-56 : (n : ℕ) → n < 2 ^ 64 → n / 256 < 2 ^ 56
-    below-56 n s = omega (arith, s)
 
-pub all-bytes : {p : List Bool} {w start pending : ℕ} {content : List ℕ} {register rest i : ℕ} → ByBytes p w start pending content register rest i → length content ≤ i
-    → lowBits w register ≡ enter p (lowBits w start) (added (lowBits 64 pending) (bitsOf content))
-unfolding bitsOf added enter
-all-bytes {p} {w} {content = content} {register = register} {rest = rest} h end =
-    ap (λ z. enter p (lowBits w register) z) (sym (xorBits-nil (lowBits 64 rest ++ [])))
-    ∙ ap (λ z. enter p (lowBits w register) (added (lowBits 64 rest) (bitsOf z))) (sym (drop-of-length-le content end)) ∙ h .left
-
--- ---- a content: its bytes alone; or words folded, words entered, and the bytes behind them
-
-module _ (p : List Bool) (w start : ℕ) (content : List ℕ) where
-  pub short : (r : ℕ) → lowBits w r ≡ enter p (lowBits w start) (added (lowBits 64 0) (bitsOf content)) → lowBits w r ≡ enter p (lowBits w start) (bitsOf content)
-  short r e = e ∙ ap (enter p (lowBits w start)) (ap (λ z. added z (bitsOf content)) (lowBits-zero 64) ∙ added-none 64 (bitsOf content))
-
-  pub whole : (words : ℕ) (front : List Bool) (register pending r : ℕ) → 8 * words ≤ length content
-      → entered p (added front (bitsOf (drop (8 * words) content))) ≡ enter p (lowBits w start) (bitsOf content)
-      → let part = take (length content - 8 * words) (drop (8 * words) content) in
-      let tail = length content / 8 * 8 in
-      enter p (lowBits w register) (added (lowBits 64 pending) (bitsOf (drop (8 * (length part / 8)) part))) ≡ entered p (added front (bitsOf part))
-      → lowBits w r ≡ enter p (lowBits w register) (added (lowBits 64 pending) (bitsOf (take (length content - tail) (drop tail content))))
-      → lowBits w r ≡ enter p (lowBits w start) (bitsOf content)
-  whole words front register pending r h folding entering bytes =
-      let rest = drop (8 * words) content in
-      let tail = length content / 8 * 8 in
-      let part = tail-of content (8 * words) in
-      let l : length rest ≡ length content - 8 * words = length-drop (8 * words) content in
-      let at : 8 * words + 8 * (length rest / 8) ≡ tail = omega arith in
-      bytes
-      ∙ ap (λ x. enter p (lowBits w register) (added (lowBits 64 pending) (bitsOf x)))
-      (tail-of content tail ∙ ap (λ n. drop n content) (sym at) ∙ sym (drop-drop (8 * (length rest / 8)) (8 * words) content)
-      ∙ ap (λ x. drop (8 * (length x / 8)) x) (sym part))
-      ∙ entering ∙ ap (λ x. entered p (added front (bitsOf x))) part ∙ folding
+pub all-bytes : {p : List Bool} {w start : ℕ} {content : List ℕ} {from register i : ℕ} → ByBytes p w start content from register i → length content ≤ i
+    → lowBits w register ≡ enter p (lowBits w start) (bitsOf (drop from content))
+unfolding bitsOf enter
+all-bytes {p} {w} {content = content} {register = register} h end =
+    ap (λ z. enter p (lowBits w register) (bitsOf z)) (sym (drop-of-length-le content end)) ∙ h .left

@@ -1,10 +1,7 @@
 pub mod Fold
-pub mod Turn
-pub mod Multiples
-pub mod WordLaws
-pub mod Folding
-pub mod Ccitt
-pub mod Ibm
-pub mod Ieee
-pub mod Registers
 pub mod Added
+pub mod Turn
+pub mod WordLaws
+pub mod Rows
+pub mod Multiples
+pub mod Folding

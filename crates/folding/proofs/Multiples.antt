@@ -1,43 +1,67 @@
 -- The multiples of the generators that have few powers: certificates, computed. Assumes nothing.
-use mathlib.Core.Path.{refl, sym, ap, _∙_}
-use lib.Dec.{T}
-use Rattle.bits.specs.Strings.{same, zeros}
-use Rattle.bits.proofs.Strings.{same-sound}
-use Rattle.division.proofs.Generators.{ieee32-generator}
-use Prim.Native.Nat.{_+_, _≤_}
+use mathlib.Core.Path.{_≡_, sym, ap, _∙_}
+use Prim.Native.Nat.{ℕ, _+_, _≤_}
 use native.Mathlib.Omega.{arith}
-use mathlib.Core.Bool.{true, xor}
-use mathlib.Core.List.{[], _∷_}
+use mathlib.Core.Bool.{Bool, true, xor}
+use mathlib.Core.List.{List, [], _∷_}
+use lib.Dec.{T}
+use lib.ListN.{length}
+use Rattle.bits.specs.Strings.{same, zeros}
+use Rattle.bits.specs.Differences.{Each}
+use Rattle.bits.proofs.Strings.{same-sound}
 use Rattle.division.specs.Generators.{ccitt16, ibm16, ieee32}
+use Rattle.division.proofs.Generators.{ccitt16-generator, ibm16-generator, ieee32-generator}
 use Rattle.registers.specs.Register.{enter, entered}
 use Rattle.folding.specs.Fold.{ccittPowers, ibmPowers, ieeePowers}
-use Rattle.bits.specs.Differences.{Each}
 use Rattle.folding.proofs.Fold.{Powers, sums}
 
-pub ccitt-powers : Powers ccitt16 256 ccittPowers (true ∷ [])
-unfolding ccitt16 enter xor
-ccitt-powers = refl
+-- modulo the generator p of w bits, x^n is the sum of the powers es, each of them a word or more below
+pub record Multiple (w : ℕ) (p : List Bool) (n : ℕ) (es : List ℕ) : Type 0 where
+  pub width : length p ≡ w
+  pub one : Powers p n es (true ∷ [])
+  pub far : Each (λ e. e + 64 ≤ n) es
 
-pub ibm-powers : Powers ibm16 192 ibmPowers (true ∷ [])
-unfolding ibm16 enter xor
-ibm-powers = refl
+-- the sum as a test
+unfoldable is-sum : ℕ → List Bool → ℕ → List ℕ → Bool
+is-sum w p n es = same (entered p (true ∷ zeros n)) (sums w (λ e. entered p (true ∷ zeros e)) es)
 
--- the wide one as a test that is computed
-ieee-test : T (same (entered ieee32 (true ∷ zeros 320)) (sums 32 (λ e. entered ieee32 (true ∷ zeros e)) ieeePowers))
-unfolding ieee32 enter xor
-ieee-test = tt
+tested : (w : ℕ) (p : List Bool) (n : ℕ) (es : List ℕ) → length p ≡ w → T (is-sum w p n es) → Powers p n es (true ∷ [])
+unfolding is-sum
+tested w p n es wide t =
+    same-sound (entered p (true ∷ zeros n)) (sums w (λ e. entered p (true ∷ zeros e)) es) t
+    ∙ ap (λ k. sums k (λ e. entered p (true ∷ zeros e)) es) (sym wide)
 
-pub ieee-powers : Powers ieee32 320 ieeePowers (true ∷ [])
-ieee-powers =
-    same-sound (entered ieee32 (true ∷ zeros 320)) (sums 32 (λ e. entered ieee32 (true ∷ zeros e)) ieeePowers) ieee-test
-    ∙ ap (λ w. sums w (λ e. entered ieee32 (true ∷ zeros e)) ieeePowers) (sym (ieee32-generator .width))
+ccitt-sum : T (is-sum 16 ccitt16 256 ccittPowers)
+unfolding is-sum ccitt16 enter xor
+ccitt-sum = tt
 
--- and each power is a word or more below
-pub ccitt-far : Each (λ e. e + 64 ≤ 256) ccittPowers
-ccitt-far = (omega arith, (omega arith, (omega arith, tt)))
+pub ccitt-multiple : Multiple 16 ccitt16 256 ccittPowers
+ccitt-multiple =
+    let wide = ccitt16-generator .width in
+    record { width = wide; one = tested 16 ccitt16 256 ccittPowers wide ccitt-sum; far = (omega arith, (omega arith, (omega arith, tt))) }
 
-pub ibm-far : Each (λ e. e + 64 ≤ 192) ibmPowers
-ibm-far = (omega arith, (omega arith, (omega arith, (omega arith, (omega arith, tt)))))
+ibm-sum : T (is-sum 16 ibm16 192 ibmPowers)
+unfolding is-sum ibm16 enter xor
+ibm-sum = tt
 
-pub ieee-far : Each (λ e. e + 64 ≤ 320) ieeePowers
-ieee-far = (omega arith, (omega arith, (omega arith, (omega arith, tt))))
+pub ibm-multiple : Multiple 16 ibm16 192 ibmPowers
+ibm-multiple =
+    let wide = ibm16-generator .width in
+    record {
+      width = wide;
+      one = tested 16 ibm16 192 ibmPowers wide ibm-sum;
+      far = (omega arith, (omega arith, (omega arith, (omega arith, (omega arith, tt)))));
+    }
+
+ieee-sum : T (is-sum 32 ieee32 320 ieeePowers)
+unfolding is-sum ieee32 enter xor
+ieee-sum = tt
+
+pub ieee-multiple : Multiple 32 ieee32 320 ieeePowers
+ieee-multiple =
+    let wide = ieee32-generator .width in
+    record {
+      width = wide;
+      one = tested 32 ieee32 320 ieeePowers wide ieee-sum;
+      far = (omega arith, (omega arith, (omega arith, (omega arith, tt))));
+    }

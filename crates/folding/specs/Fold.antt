@@ -1,18 +1,12 @@
 -- Folding: where x^n is a sum of lower powers modulo the generator, 64 bits at the front of a content are taken away and added
 -- further on. Assumes nothing.
-use Prim.Native.Nat.{ℕ, _-_}
+use mathlib.Core.Path.{_≡_}
+use Prim.Native.Nat.{ℕ, zero, suc, _-_}
 use mathlib.Core.Bool.{Bool}
 use mathlib.Core.List.{List, [], _∷_, _++_}
 use lib.ListN.{length, take, drop}
 use Rattle.bits.specs.Strings.{xorBits, zeros}
 use Rattle.bits.specs.Bytes.{lowBits}
-use Rattle.division.specs.Generators.{ccitt16, ibm16}
-use Rattle.registers.specs.Register.{tableOf, enterAllByTable}
-use Rattle.folding.specs.declared.fold_ccitt.Pending256.{Pending256}
-use Rattle.folding.specs.declared.fold_ibm.Pending192.{Pending192}
-use Rattle.folding.specs.declared.fold_ieee.Pending320.{Pending320}
-use Rattle.folding.specs.declared.generator.Generator16.{Generator16}
-use Rattle.folding.specs.declared.generator.Generator16.the-variants.{Ccitt, Ibm}
 
 -- the 64 bits t times each power of es, added up in a string of n bits
 unfoldable pub spread : ℕ → List ℕ → List Bool → List Bool
@@ -32,6 +26,12 @@ foldedBits n es pending word = xorBits (spread n es (xorBits (take 64 pending) w
 unfoldable pub added : List Bool → List Bool → List Bool
 added pending m = xorBits (pending ++ zeros (length m)) m
 
+-- nothing is yet to be added behind n words
+unfoldable pub EndsWithin : ℕ → List ℕ → Type 0
+EndsWithin n [] = Unit
+EndsWithin zero (w ∷ ws) = (w ≡ 0) × EndsWithin zero ws
+EndsWithin (suc n) (w ∷ ws) = EndsWithin n ws
+
 -- ---- the multiples of the generators: x^256 = x^192 + x^80 + 1; x^192 = x^128 + x^80 + x^72 + x^16 + x^8;
 -- x^320 = x^175 + x^137 + x^109 + x^20
 
@@ -43,21 +43,3 @@ ibmPowers = 128 ∷ 80 ∷ 72 ∷ 16 ∷ 8 ∷ []
 
 abbrev pub ieeePowers : List ℕ
 ieeePowers = 175 ∷ 137 ∷ 109 ∷ 20 ∷ []
-
--- what is yet to be added, as the code holds it
-abbrev pub bits256 : Pending256 → List Bool
-bits256 f = wordBits (f .a ∷ f .b ∷ f .c ∷ f .d ∷ [])
-
-abbrev pub bits192 : Pending192 → List Bool
-bits192 f = wordBits (f .a ∷ f .b ∷ f .c ∷ [])
-
-abbrev pub bits320 : Pending320 → List Bool
-bits320 f = wordBits (f .a ∷ f .b ∷ f .c ∷ f .d ∷ f .e ∷ [])
-
-abbrev pub generatorOf : Generator16 → List Bool
-generatorOf Ccitt = ccitt16
-generatorOf Ibm = ibm16
-
--- the register after bytes, as a number: the one that the generator's table gives
-abbrev pub registerAfter : Generator16 → ℕ → List ℕ → ℕ
-registerAfter g = enterAllByTable (tableOf 16 (generatorOf g))

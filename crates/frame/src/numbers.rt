@@ -1,7 +1,7 @@
 // The numbers of a method, from the type of its check.
 use crate::FrameMethod;
-use cyclic::Cyclic5;
-use cyclic::Cyclic6;
+use cyclic5::Cyclic5;
+use cyclic6::Cyclic6;
 ghost use mathlib.Core.Path.{_≡_};
 ghost use Rattle.frame.specs.Frame.{parametersOf, width};
 

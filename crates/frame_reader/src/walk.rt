@@ -6,13 +6,15 @@ use crate::data::bit_at;
 use crate::data::with_bit;
 use crate::judge::judge16;
 use crate::judge::judge32;
-use cyclic::Cyclic5;
-use cyclic::Cyclic6;
+use cyclic5::Cyclic5;
+use cyclic6::Cyclic6;
 use frame::FLAG;
 use frame::FrameMethod;
 use frame::ReadRefusal;
 use frame::check_width;
 use frame::limit;
+use tables::ccitt16;
+use tables::ieee32;
 ghost use mathlib.Core.Path.{_≡_};
 ghost use mathlib.Core.Bool.{cond};
 ghost use Prim.Native.Nat.{_+_, _-_, _*_, _^_, _<_, _≤_};
@@ -25,11 +27,6 @@ ghost use Rattle.frame.specs.Stuffing.{unstuff};
 ghost use Rattle.frame.specs.Frame.{parametersOf, flag};
 ghost use Rattle.frame.specs.Read.{askZeros, framed};
 ghost use Rattle.frame_reader.specs.Steps.{ofWalk, walkEnd, zerosAnswer, ChecksRight, framedAnswer, unframed};
-
-// The remainders of appendices 1 and 2, the highest power in bit 0.
-const REMAINDER16: u32 = 0xf0b8;
-
-const REMAINDER32: u32 = 0xdebb20e3;
 
 // Whether the eight bits from a place on are a flag.
 fn is_flag(lent: &[u8], at: usize) -> bool
@@ -66,12 +63,16 @@ fn walk(m: FrameMethod, lent: &[u8], end: usize) -> WalkEnd
 {
     match m {
         FrameMethod::Cyclic16 => {
-            let table = Cyclic5::table();
-            walk_end(judge16(&table, Cyclic5::START, lent, end), end, REMAINDER16)
+            let cyclic = Cyclic5::new();
+            let table = ccitt16();
+            let judged = judge16(&table, cyclic.register, lent, end);
+            walk_end(judged, end, Cyclic5::RESIDUE as u32)
         }
         FrameMethod::Cyclic32 => {
-            let table = Cyclic6::table();
-            walk_end(judge32(&table, Cyclic6::START, lent, end), end, REMAINDER32)
+            let cyclic = Cyclic6::new();
+            let table = ieee32();
+            let judged = judge32(&table, cyclic.register, lent, end);
+            walk_end(judged, end, Cyclic6::RESIDUE)
         }
     }
 }

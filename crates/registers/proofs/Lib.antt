@@ -1,4 +1,3 @@
 pub mod Enter
 pub mod Table
 pub mod Entered
-pub mod Loop

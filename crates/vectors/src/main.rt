@@ -1,14 +1,11 @@
 // Runs the published check values and document 01's rows 11 to 13 and 15 to 17 through the calls, and prints what they answer, a
 // row a line. The file `stdout` holds what the papers say.
 use block::Method;
-use cyclic::Cyclic3;
-use cyclic::Cyclic4;
-use cyclic::Cyclic5;
-use cyclic::Cyclic6;
+use cyclic3::Cyclic3;
+use cyclic4::Cyclic4;
+use cyclic5::Cyclic5;
+use cyclic6::Cyclic6;
 use libc::STDOUT_FILENO;
-ghost use mathlib.Core.Path.{_≡_};
-ghost use Rattle.bits.specs.Bytes.{lowBits, bitsOf};
-ghost use Rattle.cyclic.specs.Check.{checkBits, method4};
 
 mod print;
 mod rows;
@@ -43,21 +40,8 @@ fn print_sent32(label: &[u8], check: u32) {
     io::write_all(STDOUT_FILENO, b"\n");
 }
 
-// The check of method 4, byte by byte: the same by the contracts of the calls alone.
-fn check_4_by_bytes(content: &[u8]) -> u16
-    ensures { λ r. ⌜ lowBits 16 r ≡ checkBits method4 (bitsOf (now (content .entry))) ⌝ }
-{
-    let table = Cyclic4::table();
-    let mut register = Cyclic4::START;
-    let mut i = 0;
-    while i < content.len() {
-        register = registers::enter_byte16(&table, register, content[i]);
-        i += 1;
-    }
-    Cyclic4 { register }.check()
-}
-
-fn main() {
+// The check values that are published for each polynomial.
+fn published() {
     print_check(
         b"123456789, method 3: ",
         Cyclic3::check_of(b"123456789") as u64,
@@ -69,8 +53,8 @@ fn main() {
         4,
     );
     print_check(
-        b"123456789, method 4 by bytes: ",
-        check_4_by_bytes(b"123456789") as u64,
+        b"123456789, method 4 in two parts: ",
+        Cyclic4::new().enter(b"1234").enter(b"56789").check() as u64,
         4,
     );
     print_check(
@@ -83,6 +67,10 @@ fn main() {
         Cyclic6::check_of(b"123456789") as u64,
         8,
     );
+}
+
+// Document 01's rows 11 to 13.
+fn checks() {
     print_sent16(
         b"row 11, check of FF, method 5:",
         Cyclic5::check_of(b"\xff"),
@@ -95,6 +83,11 @@ fn main() {
         b"row 13, check of FF, method 6:",
         Cyclic6::check_of(b"\xff"),
     );
+}
+
+fn main() {
+    published();
+    checks();
     rows::row_13();
     rows::row_15();
     rows::row_16_taken();

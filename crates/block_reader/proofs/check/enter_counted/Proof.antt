@@ -1,7 +1,7 @@
 -- `enter_counted` meets its contract: header, inner start, text and end sign enter one after the other. Assumes nothing.
 use mathlib.Core.Bool.{false}
-use Rattle.folding.specs.Fold.{registerAfter}
-use Rattle.folding.proofs.Registers.{after-append}
+use Rattle.generator16.specs.Register.{registerAfter}
+use Rattle.generator16.proofs.Registers.{after-append}
 use Rattle.block_reader.proofs.HandedOut.{header-kept, text-kept}
 use Rattle.block_reader.proofs.ReceivedChecks.{folded}
 use borrow.Author.Needs.{needs}

@@ -4,8 +4,8 @@ use Prim.Native.Nat.{_-_}
 use native.Mathlib.Omega.{arith}
 use mathlib.Core.Bool.{false}
 use lib.ListN.{length}
-use Rattle.folding.specs.Fold.{registerAfter}
-use Rattle.folding.proofs.Registers.{after-nil, after-append}
+use Rattle.generator16.specs.Register.{registerAfter}
+use Rattle.generator16.proofs.Registers.{after-nil, after-append}
 use Rattle.block_reader.proofs.Kept.{Folding, begin, piece, whole, piece-room, gathered-size, gathered-fits, gathered-is, gathered-length}
 use borrow.Author.Needs.{needs}
 use Rattle.block_reader.proofs.segments.enter_gathered.Statement.{statement}

@@ -1,7 +1,7 @@
 -- `enter_part` meets its contract: a segment as long as what it keeps is kept whole. Assumes nothing.
 use mathlib.Core.Path.{sym, ap, _∙_}
 use mathlib.Core.Bool.{false}
-use Rattle.folding.specs.Fold.{registerAfter}
+use Rattle.generator16.specs.Register.{registerAfter}
 use Rattle.block_framing.specs.Framings.{keptBytes}
 use Rattle.block_reader.proofs.Kept.{kept-all}
 use borrow.Author.Needs.{needs}

@@ -2,8 +2,8 @@
 use mathlib.Core.Path.{sym, ap, _∙_}
 use mathlib.Core.List.{[], _∷_}
 use borrow.Author.Needs.{needs}
-use Rattle.folding.specs.Fold.{registerAfter}
-use Rattle.folding.proofs.Registers.{after-nil, after-append}
+use Rattle.generator16.specs.Register.{registerAfter}
+use Rattle.generator16.proofs.Registers.{after-nil, after-append}
 use Rattle.block.specs.Signs.{STX, DLE}
 use Rattle.block_writer.proofs.written_check.inner_register.Statement.{statement}
 use Rattle.block_writer.proofs.written_check.inner_register.Tie as tie

@@ -2,8 +2,8 @@
 use mathlib.Core.Path.{ap, _∙_}
 use mathlib.Core.List.{[], _∷_}
 use borrow.Author.Needs.{needs}
-use Rattle.folding.specs.Fold.{registerAfter}
-use Rattle.folding.proofs.Registers.{after-append}
+use Rattle.generator16.specs.Register.{registerAfter}
+use Rattle.generator16.proofs.Registers.{after-append}
 use Rattle.block_writer.proofs.WrittenChecks.{parts-of}
 use Rattle.block_writer.proofs.written_check.written_register.Statement.{statement}
 use Rattle.block_writer.proofs.written_check.written_register.Tie as tie
