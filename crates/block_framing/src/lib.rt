@@ -35,7 +35,6 @@ pub enum WalkEnd {
     Refused(ReadRefusal),
 }
 
-mod judge;
 mod questions;
 mod run;
 mod scan;

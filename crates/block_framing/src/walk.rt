@@ -2,7 +2,6 @@
 use crate::Framing;
 use crate::Tally;
 use crate::WalkEnd;
-use crate::judge::judge;
 use crate::run::add_run;
 use crate::run::run_end;
 use block::BytePlace;
@@ -13,6 +12,7 @@ use block::Mark;
 use block::ReadRefusal;
 use block::Shape;
 use block::character;
+use block_fields::judge;
 ghost use mathlib.Core.Path.{_≡_};
 ghost use Prim.Native.Nat.{_-_, _≤_};
 ghost use lib.ListN.{length};

@@ -1,8 +1,8 @@
 -- `judge_text` meets its contract: each arm knows the sign of the character. Assumes nothing.
 use Rattle.block.specs.Signs.{signOf}
 use Rattle.block.proofs.NoSign.{no-sign}
-use Rattle.block_framing.proofs.judge.judge_text.Statement.{statement}
-use Rattle.block_framing.proofs.judge.judge_text.Tie as tie
+use Rattle.block_fields.proofs.judge_text.Statement.{statement}
+use Rattle.block_fields.proofs.judge_text.Tie as tie
 
 returns : tie.Need-returns
 unfolding signOf

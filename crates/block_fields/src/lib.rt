@@ -1,4 +1,5 @@
-// What a character is in its field: one match for each field, by its value.
+// What a character is in its field (document 01, part 3): `judge` has one match for each field, by the character's value. It takes
+// every input.
 use block::DLE;
 use block::ETB;
 use block::ETX;

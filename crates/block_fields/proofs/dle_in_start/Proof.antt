@@ -1,6 +1,6 @@
 -- `dle_in_start` meets its contract. Assumes nothing.
-use Rattle.block_framing.proofs.judge.dle_in_start.Statement.{statement}
-use Rattle.block_framing.proofs.judge.dle_in_start.Tie as tie
+use Rattle.block_fields.proofs.dle_in_start.Statement.{statement}
+use Rattle.block_fields.proofs.dle_in_start.Tie as tie
 
 returns : tie.Need-returns
 returns c = rw (c .if1 .taken)

@@ -1,12 +1,12 @@
--- `judge_header` meets its contract: each arm knows the sign of the character. Assumes nothing.
+-- `judge_start` meets its contract: each arm knows the sign of the character. Assumes nothing.
 use borrow.Author.Needs.{needs}
 use Rattle.block.specs.Signs.{signOf}
 use Rattle.block.proofs.NoSign.{no-sign}
-use Rattle.block_framing.proofs.judge.judge_header.Statement.{statement}
-use Rattle.block_framing.proofs.judge.judge_header.Tie as tie
+use Rattle.block_fields.proofs.judge_start.Statement.{statement}
+use Rattle.block_fields.proofs.judge_start.Tie as tie
 
-dle-in-header-requires : tie.Need-dle-in-header-requires
-dle-in-header-requires c κs = search needs
+dle-in-start-requires : tie.Need-dle-in-start-requires
+dle-in-start-requires c κs = search needs
 
 returns : tie.Need-returns
 unfolding signOf
@@ -18,7 +18,7 @@ returns-2 c = rw (c .match .keys2)
 
 returns-3 : tie.Need-returns-3
 unfolding signOf
-returns-3 c = rw (c .before .match .keys3) (c .dle-in-header .ensures)
+returns-3 c = rw (c .before .match .keys3) (c .dle-in-start .ensures)
 
 returns-4 : tie.Need-returns-4
 unfolding signOf
@@ -46,11 +46,11 @@ returns-9 c = rw (c .match .keys8)
 returns-10 : tie.Need-returns-10
 returns-10 c = rw (no-sign _ (c .before .match .rest .0))
 
-pub judge-header-spec : {M : Type 1} → statement M
-judge-header-spec =
+pub judge-start-spec : {M : Type 1} → statement M
+judge-start-spec =
     tie.close
     (tie.spec
-    dle-in-header-requires
+    dle-in-start-requires
     returns
     returns-2
     returns-3

@@ -1,12 +1,8 @@
--- `judge_start` meets its contract: each arm knows the sign of the character. Assumes nothing.
-use borrow.Author.Needs.{needs}
+-- `judge_clear` meets its contract: each arm knows the sign of the character. Assumes nothing.
 use Rattle.block.specs.Signs.{signOf}
 use Rattle.block.proofs.NoSign.{no-sign}
-use Rattle.block_framing.proofs.judge.judge_start.Statement.{statement}
-use Rattle.block_framing.proofs.judge.judge_start.Tie as tie
-
-dle-in-start-requires : tie.Need-dle-in-start-requires
-dle-in-start-requires c κs = search needs
+use Rattle.block_fields.proofs.judge_clear.Statement.{statement}
+use Rattle.block_fields.proofs.judge_clear.Tie as tie
 
 returns : tie.Need-returns
 unfolding signOf
@@ -18,7 +14,7 @@ returns-2 c = rw (c .match .keys2)
 
 returns-3 : tie.Need-returns-3
 unfolding signOf
-returns-3 c = rw (c .before .match .keys3) (c .dle-in-start .ensures)
+returns-3 c = rw (c .match .keys3)
 
 returns-4 : tie.Need-returns-4
 unfolding signOf
@@ -46,11 +42,10 @@ returns-9 c = rw (c .match .keys8)
 returns-10 : tie.Need-returns-10
 returns-10 c = rw (no-sign _ (c .before .match .rest .0))
 
-pub judge-start-spec : {M : Type 1} → statement M
-judge-start-spec =
+pub judge-clear-spec : {M : Type 1} → statement M
+judge-clear-spec =
     tie.close
     (tie.spec
-    dle-in-start-requires
     returns
     returns-2
     returns-3

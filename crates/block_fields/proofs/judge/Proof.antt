@@ -1,7 +1,7 @@
 -- `judge` meets its contract: each field has its own function. Assumes nothing.
 use borrow.Author.Needs.{needs}
-use Rattle.block_framing.proofs.judge.judge.Statement.{statement}
-use Rattle.block_framing.proofs.judge.judge.Tie as tie
+use Rattle.block_fields.proofs.judge.Statement.{statement}
+use Rattle.block_fields.proofs.judge.Tie as tie
 
 enum-told : tie.Need-enum-told
 enum-told c = search needs
