@@ -8,13 +8,13 @@ use Rattle.block.specs.declared.EndSign.{EndSign}
 use Rattle.block.specs.declared.Field.{Field}
 use Rattle.block.specs.declared.Field.the-variants.{Header, Text, ClearDle}
 use Rattle.block_framing.specs.declared.Tally.{Tally}
-use Rattle.block_framing.specs.declared.Framing.{Framing}
+use Rattle.block_framing.specs.declared.Segments.{Segments}
 use Rattle.block_framing.specs.Framings.{segments, headerOnly, framingAt}
 
 two-before : (after last tail : ℕ) → last ≡ after - 1 → tail ≡ last - 1 → tail ≡ after - 2
 two-before after last tail p k = omega arith
 
-module _ (f : Field) (e : EndSign) (t : Tally) (after : ℕ) {last : ℕ} (p : last ≡ after - 1) {r : Framing} where
+module _ (f : Field) (e : EndSign) (t : Tally) (after : ℕ) {last : ℕ} (p : last ≡ after - 1) {r : Segments} where
   pub text-alone : f ≡ Text → t .inner ≡ 0 → r ≡ segments shape.Text e t after 1 1 1 last → r ≡ framingAt f e t after
   unfolding framingAt
   text-alone h i q = rw (h, eq-eqb (t .inner) 0 i) (q ∙ ap (segments shape.Text e t after 1 1 1) p)

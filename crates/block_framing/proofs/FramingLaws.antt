@@ -22,7 +22,7 @@ use Rattle.block.specs.Walk.{ended, Walked, onward, walk}
 use Rattle.block.specs.Marks.{isHeader, isText, sift, counted, hasInner, shapeOf}
 use Rattle.block.specs.Write.{isClear}
 use Rattle.block_framing.specs.declared.Tally.{Tally}
-use Rattle.block_framing.specs.declared.Framing.{Framing}
+use Rattle.block_framing.specs.declared.Segments.{Segments}
 use Rattle.block_framing.specs.Framings.{noTally, addMark, tallied, segments, framingAt}
 use Rattle.block_framing.specs.Framings.{keptBytes, headerIn, textIn, countedIn, Segmented}
 use Rattle.block_framing.proofs.TextWalk.{Part}
@@ -37,7 +37,7 @@ slice-at a b c f t p q =
 
 -- a line taken apart as a framing f says: start, header, inner start, text, the last DLE of clear text, end sign, and what stands
 -- after it
-record Split (seven : Bool) (line : List ℕ) (ks : List Mark) (f : Framing) : Type 0 where
+record Split (seven : Bool) (line : List ℕ) (ks : List Mark) (f : Segments) : Type 0 where
   front : List ℕ
   hs : List ℕ
   is : List ℕ
@@ -55,7 +55,7 @@ record Split (seven : Bool) (line : List ℕ) (ks : List Mark) (f : Framing) : T
   texts : sift isText ks line ≡ keptBytes (isClear (f .shape)) seven false ts
   counts : counted ks line ≡ keptBytes false seven false hs ++ (is ++ (keptBytes (isClear (f .shape)) seven false ts ++ stop ∷ []))
 
-module _ (seven : Bool) (line : List ℕ) (ks : List Mark) (f : Framing) (p : Split seven line ks f) where
+module _ (seven : Bool) (line : List ℕ) (ks : List Mark) (f : Segments) (p : Split seven line ks f) where
   split-length : length line ≡ f .after + length (p .rest)
   split-length = ap length (p .split) ∙ simp length-append (omega (arith, p .after))
 
@@ -152,7 +152,7 @@ clear-split seven b c l ks e t p =
     }
 
 -- the places of a line with a header of `n` bytes, an inner start of `wide` bytes and `size` bytes up to and with its end sign
-record Placed (isClearText : Bool) (wide n size : ℕ) (f : Framing) : Type 0 where
+record Placed (isClearText : Bool) (wide n size : ℕ) (f : Segments) : Type 0 where
   head : f .head ≡ 1
   inner : f .inner ≡ 1 + n
   body : f .body ≡ 1 + n + wide
@@ -160,7 +160,7 @@ record Placed (isClearText : Bool) (wide n size : ℕ) (f : Framing) : Type 0 wh
   after : f .after ≡ size
   clear : isClear (f .shape) ≡ isClearText
 
-headed-split : (seven : Bool) (f : Field) (b : ℕ) (l : List ℕ) (ks : List Mark) (p : Headed seven f l ks) (g : Framing)
+headed-split : (seven : Bool) (f : Field) (b : ℕ) (l : List ℕ) (ks : List Mark) (p : Headed seven f l ks) (g : Segments)
     → Placed (p .clear) (p .wide) (length (p .head)) (length (LeftOut ∷ ks)) g → Split seven (b ∷ l) (LeftOut ∷ ks) g
 headed-split seven f b l ks p g h =
     record {

@@ -32,7 +32,7 @@ use Rattle.block.specs.Answers.{readNumber, readValue}
 use Rattle.block_framing.specs.declared.WalkEnd.{WalkEnd}
 use Rattle.block_framing.specs.declared.WalkEnd.the-variants as code
 use Rattle.block_framing.specs.declared.Tally.{Tally}
-use Rattle.block_framing.specs.declared.Framing.{Framing}
+use Rattle.block_framing.specs.declared.Segments.{Segments}
 use Rattle.block_framing.specs.Framings.{noTally, addMark, tallied, segments, framingAt, framed, refusal, ofWalk, stopped, answerAfter, walkAnswer, framedAnswer, wrongFrom}
 use Rattle.block_framing.proofs.FramingLaws.{tally-counts, marks-within}
 
@@ -119,13 +119,13 @@ answer-walk : (w : Walked) → walkAnswer noTally 0 w ≡ stopped (tallied noTal
 answer-walk w = answer-stopped noTally 0 (w .marks) (w .stop) ∙ ap (λ n. stopped (tallied noTally 0 (w .marks)) n (w .stop)) (zero-add (length (w .marks)))
 
 -- a walk that walkAnswer a framing stopped at an end sign
-pub record FoundBy (w : Walked) (r : Framing) : Type 0 where
+pub record FoundBy (w : Walked) (r : Segments) : Type 0 where
   pub field : Field
   pub end : EndSign
   pub stop : w .stop ≡ ended field end
   pub framing : r ≡ framingAt field end (tallied noTally 0 (w .marks)) (length (w .marks))
 
-pub found-by : (w : Walked) (r : Framing) → walkAnswer noTally 0 w ≡ framed r → FoundBy w r
+pub found-by : (w : Walked) (r : Segments) → walkAnswer noTally 0 w ≡ framed r → FoundBy w r
 found-by w r e = go (w .stop) refl
   where
     go : (s : Stop) → w .stop ≡ s → FoundBy w r
@@ -155,7 +155,7 @@ refused-by m line w n v e = go (w .stop) refl
 
 -- ---- what a framing carries over from the tally
 
-pub record Carries (e : EndSign) (t : Tally) (after : ℕ) (r : Framing) : Type 0 where
+pub record Carries (e : EndSign) (t : Tally) (after : ℕ) (r : Segments) : Type 0 where
   pub ends : r .end ≡ e
   pub headers : r .header ≡ t .header
   pub texts : r .text ≡ t .text
@@ -165,7 +165,7 @@ pub record Carries (e : EndSign) (t : Tally) (after : ℕ) (r : Framing) : Type 
 carries-segments : (s : Shape) (e : EndSign) (t : Tally) (after head inner body tail : ℕ) → Carries e t after (segments s e t after head inner body tail)
 carries-segments s e t after head inner body tail = record { ends = refl; headers = refl; texts = refl; counts = refl; behind = refl }
 
-carries-either : (b : Bool) {e : EndSign} {t : Tally} {after : ℕ} {x y : Framing} → Carries e t after x → Carries e t after y → Carries e t after (cond b x y)
+carries-either : (b : Bool) {e : EndSign} {t : Tally} {after : ℕ} {x y : Segments} → Carries e t after x → Carries e t after y → Carries e t after (cond b x y)
 carries-either true p q = p
 carries-either false p q = q
 
@@ -181,7 +181,7 @@ framing-carries ClearDle e t after = carries-either (eqb (t .inner) 0) (carries-
 
 -- ---- 16 and 17
 
-module _ (m : Method) (line : List ℕ) (r : Framing) (e : walkAnswer noTally 0 (walk (isSeven m) line 0 Start) ≡ framed r) where
+module _ (m : Method) (line : List ℕ) (r : Segments) (e : walkAnswer noTally 0 (walk (isSeven m) line 0 Start) ≡ framed r) where
   abbrev w : Walked
   w = walk (isSeven m) line 0 Start
 
@@ -190,7 +190,7 @@ module _ (m : Method) (line : List ℕ) (r : Framing) (e : walkAnswer noTally 0 
 
   carried : Carries (by .end) (tallied noTally 0 (w .marks)) (length (w .marks)) r
   carried =
-      subst (λ (x : Framing). Carries (by .end) (tallied noTally 0 (w .marks)) (length (w .marks)) x) (sym (by .framing))
+      subst (λ (x : Segments). Carries (by .end) (tallied noTally 0 (w .marks)) (length (w .marks)) x) (sym (by .framing))
       (framing-carries (by .field) (by .end) (tallied noTally 0 (w .marks)) (length (w .marks)))
 
   count : r .counted ≡ length (counted (w .marks) line)
@@ -234,7 +234,7 @@ module _ (m : Method) (line : List ℕ) (r : Framing) (e : walkAnswer noTally 0 
 
 module _ (m : Method) (line : List ℕ) {seven : Bool} {result : WalkEnd} (s : seven ≡ isSeven m)
     (e : ofWalk result ≡ walkAnswer noTally 0 (walk seven line 0 Start)) where
-  pub answer-as : {r : Framing} → result ≡ code.Found r → walkAnswer noTally 0 (walk (isSeven m) line 0 Start) ≡ framed r
+  pub answer-as : {r : Segments} → result ≡ code.Found r → walkAnswer noTally 0 (walk (isSeven m) line 0 Start) ≡ framed r
   answer-as q = sym (e ∙ ap (λ t. walkAnswer noTally 0 (walk t line 0 Start)) s) ∙ ap ofWalk q
 
   pub refused-as : {r : ReadRefusal} → result ≡ code.Refused r → ofWalk result ≡ framedAnswer (askWalk m line (walk (isSeven m) line 0 Start))

@@ -26,7 +26,7 @@ use Rattle.block.specs.Walk.{halt, cut, onward, judge, walk}
 use Rattle.block.specs.Write.{isOther}
 use Rattle.block.proofs.NoSign.{NoSign, no-sign, off-none, above-none}
 use Rattle.block_framing.specs.declared.Tally.{Tally}
-use Rattle.block_framing.specs.declared.Framing.{Framing}
+use Rattle.block_framing.specs.declared.Segments.{Segments}
 use Rattle.block_framing.specs.Framings.{noTally, addMark, framingAt, framed, stopped, walkAnswer, Small}
 use Rattle.block_framing.specs.Runs.{isClearData, dataMark, Run, IsData, addRun}
 use Rattle.block_framing.proofs.KeptBySign.{isDle, dle-test}
@@ -106,7 +106,7 @@ module _ {seven : Bool} {line : List ℕ} {t : Tally} {f : Field} {i : ℕ} (w :
           rest = ap (λ x. walkAnswer x (i + 1) (walk seven (drop (i + 1) line) (i + 1) g)) b ∙ turned (Is k g) e;
         }
 
-    pub ends : {e : EndSign} {u : Tally} {r : Framing} → j ≡ Ends e → u ≡ addMark End i t → r ≡ framingAt f e u (i + 1)
+    pub ends : {e : EndSign} {u : Tally} {r : Segments} → j ≡ Ends e → u ≡ addMark End i t → r ≡ framingAt f e u (i + 1)
         → framed r ≡ walkAnswer noTally 0 (walk seven line 0 Start)
     ends {e} q b x = ap framed (x ∙ ap (λ u. framingAt f e u (i + 1)) b) ∙ turned (Ends e) q
 

@@ -25,7 +25,7 @@ use Rattle.block.specs.Write.{isClear}
 use Rattle.block.specs.Answers.{Numbers, readNumber, readValue}
 use Rattle.block.specs.Answers as answers
 use Rattle.block_framing.specs.declared.Tally.{Tally}
-use Rattle.block_framing.specs.declared.Framing.{Framing}
+use Rattle.block_framing.specs.declared.Segments.{Segments}
 use Rattle.block_framing.specs.declared.WalkEnd.{WalkEnd}
 use Rattle.block_framing.specs.declared.WalkEnd.the-variants as code
 
@@ -58,7 +58,7 @@ pub record Small (t : Tally) (n : ℕ) : Type 0 where
 
 -- ---- the framing
 
-abbrev pub segments : Shape → EndSign → Tally → ℕ → ℕ → ℕ → ℕ → ℕ → Framing
+abbrev pub segments : Shape → EndSign → Tally → ℕ → ℕ → ℕ → ℕ → ℕ → Segments
 segments s e t after head inner body tail =
     record {
       shape = s;
@@ -74,11 +74,11 @@ segments s e t after head inner body tail =
     }
 
 -- a line whose end sign stands in its header
-abbrev pub headerOnly : EndSign → Tally → ℕ → Framing
+abbrev pub headerOnly : EndSign → Tally → ℕ → Segments
 headerOnly e t after = segments shape.Header e t after 1 (after - 1) (after - 1) (after - 1)
 
 -- a line whose end sign stands in field f, behind `after` bytes
-unfoldable pub framingAt : Field → EndSign → Tally → ℕ → Framing
+unfoldable pub framingAt : Field → EndSign → Tally → ℕ → Segments
 framingAt Start e t after = headerOnly e t after
 framingAt StartDle e t after = headerOnly e t after
 framingAt Header e t after = headerOnly e t after
@@ -95,7 +95,7 @@ framingAt ClearDle e t after =
 
 -- a framing, or number and value of a refusal
 pub data WalkAnswer : Type 0 where
-  framed : Framing → WalkAnswer
+  framed : Segments → WalkAnswer
   refusal : ℕ → ℕ → WalkAnswer
 
 abbrev pub ofWalk : WalkEnd → WalkAnswer
@@ -143,19 +143,19 @@ unfoldable pub keptBytes : Bool → Bool → Bool → List ℕ → List ℕ
 keptBytes clear seven behind [] = []
 keptBytes clear seven behind (b ∷ bs) = consIf (isKept clear seven behind b) b (keptBytes clear seven (nextBehind clear behind b) bs)
 
-unfoldable pub headerIn : Bool → Framing → List ℕ → List ℕ
+unfoldable pub headerIn : Bool → Segments → List ℕ → List ℕ
 headerIn seven f line = keptBytes false seven false (slice (f .head) (f .inner) line)
 
-unfoldable pub textIn : Bool → Framing → List ℕ → List ℕ
+unfoldable pub textIn : Bool → Segments → List ℕ → List ℕ
 textIn seven f line = keptBytes (isClear (f .shape)) seven false (slice (f .body) (f .tail) line)
 
 -- header, inner start, text, end sign
-unfoldable pub countedIn : Bool → Framing → List ℕ → List ℕ
+unfoldable pub countedIn : Bool → Segments → List ℕ → List ℕ
 countedIn seven f line =
     headerIn seven f line ++ (slice (f .inner) (f .body) line ++ (textIn seven f line ++ getD line (f .after - 1) 0 ∷ []))
 
 -- the segments stand in order within the line
-pub record Ordered (f : Framing) (size : ℕ) : Type 0 where
+pub record Ordered (f : Segments) (size : ℕ) : Type 0 where
   pub header : f .head ≤ f .inner
   pub inner : f .inner ≤ f .body
   pub text : f .body ≤ f .tail
@@ -163,7 +163,7 @@ pub record Ordered (f : Framing) (size : ℕ) : Type 0 where
   pub within : f .after ≤ size
 
 -- a framing finds what the marks say
-pub record Segmented (seven : Bool) (line : List ℕ) (ks : List Mark) (f : Framing) : Type 0 where
+pub record Segmented (seven : Bool) (line : List ℕ) (ks : List Mark) (f : Segments) : Type 0 where
   pub ordered : Ordered f (length line)
   pub headers : sift isHeader ks line ≡ headerIn seven f line
   pub texts : sift isText ks line ≡ textIn seven f line

@@ -6,7 +6,7 @@ use block::Shape;
 
 // The marks so far, counted up: the place of the first inner start (0 where there was none), and the numbers of header bytes,
 // text bytes and counted bytes.
-pub struct Tally {
+pub(crate) struct Tally {
     pub inner: usize,
     pub header: usize,
     pub text: usize,
@@ -16,7 +16,7 @@ pub struct Tally {
 // What the walk hands on: shape and end sign; the places of the header (from `head` up to `inner`), of the inner start (up to
 // `body`) and of the text (up to `tail`); the lengths of header and text without fill; the counted number; and the place after
 // the end sign.
-pub struct Framing {
+pub struct Segments {
     pub shape: Shape,
     pub end: EndSign,
     pub head: usize,
@@ -31,7 +31,7 @@ pub struct Framing {
 
 // How a walk ended.
 pub enum WalkEnd {
-    Found(Framing),
+    Found(Segments),
     Refused(ReadRefusal),
 }
 

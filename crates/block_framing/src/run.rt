@@ -10,7 +10,7 @@ ghost use Rattle.block_framing.specs.Framings.{Small};
 ghost use Rattle.block_framing.specs.Runs.{Run, IsData, addRun};
 
 // Where the run of data that begins at the place `from` of field f ends.
-pub fn run_end(seven: bool, f: Field, line: &[u8], from: usize) -> usize
+pub(crate) fn run_end(seven: bool, f: Field, line: &[u8], from: usize) -> usize
     requires { ⌜ from ≤ length (now line) ⌝ }
     ensures { λ r. ⌜ Run (IsData seven f (now (line .entry))) (length (now (line .entry))) from r ⌝ }
 {
@@ -26,7 +26,7 @@ pub fn run_end(seven: bool, f: Field, line: &[u8], from: usize) -> usize
 }
 
 // The tally with n bytes of data of field f.
-pub fn add_run(f: Field, n: usize, t: Tally) -> Tally
+pub(crate) fn add_run(f: Field, n: usize, t: Tally) -> Tally
     requires { ⌜ (Small t 16384) × (n ≤ 16384) ⌝ }
     ensures { λ r. ⌜ r ≡ addRun f n t ⌝ }
 {

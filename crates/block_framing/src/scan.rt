@@ -109,7 +109,7 @@ fn plain_up_to(seven: bool, line: &[u8], from: usize) -> usize
 }
 
 // The place of the next byte from `from` on that is no data of header or plain text.
-pub fn plain_end(seven: bool, line: &[u8], from: usize) -> usize
+pub(crate) fn plain_end(seven: bool, line: &[u8], from: usize) -> usize
     requires { ⌜ from ≤ length (now line) ⌝ }
     ensures { λ r. ⌜ Run (λ k. isOther (signOf (rule.character seven (getD (now (line .entry)) k 0))) ≡ true) (length (now (line .entry))) from r ⌝ }
 {
@@ -153,7 +153,7 @@ fn clear_up_to(seven: bool, line: &[u8], from: usize) -> usize
 }
 
 // The place of the next byte from `from` on that is no data of clear text.
-pub fn clear_end(seven: bool, line: &[u8], from: usize) -> usize
+pub(crate) fn clear_end(seven: bool, line: &[u8], from: usize) -> usize
     requires { ⌜ from ≤ length (now line) ⌝ }
     ensures { λ r. ⌜ Run (λ k. isClearData (signOf (rule.character seven (getD (now (line .entry)) k 0))) ≡ true) (length (now (line .entry))) from r ⌝ }
 {

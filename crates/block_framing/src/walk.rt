@@ -1,5 +1,5 @@
 // The walk over a line, questions 13 to 15, and the framing that it finds.
-use crate::Framing;
+use crate::Segments;
 use crate::Tally;
 use crate::WalkEnd;
 use crate::run::add_run;
@@ -76,10 +76,10 @@ fn segments_at(
     to: usize,
     begin: usize,
     stop: usize,
-) -> Framing
+) -> Segments
     ensures { λ r. ⌜ r ≡ segments shape end t after from to begin stop ⌝ }
 {
-    Framing {
+    Segments {
         shape,
         end,
         head: from,
@@ -94,7 +94,7 @@ fn segments_at(
 }
 
 // The framing of a line whose end sign stands in field f, behind `after` bytes.
-fn framing_at(f: Field, end: EndSign, t: Tally, after: usize) -> Framing
+fn framing_at(f: Field, end: EndSign, t: Tally, after: usize) -> Segments
     requires { ⌜ Small t 16384 ⌝ }
     ensures { λ r. ⌜ r ≡ framingAt f end t after ⌝ }
 {
@@ -147,7 +147,7 @@ fn cut(f: Field) -> WalkEnd
     }
 }
 
-pub fn walk(seven: bool, line: &[u8]) -> WalkEnd
+pub(crate) fn walk(seven: bool, line: &[u8]) -> WalkEnd
     requires { ⌜ length (now line) ≤ 16384 ⌝ }
     ensures { λ r. ⌜ ofWalk r ≡ walkAnswer noTally 0 (rule.walk seven (now (line .entry)) 0 Field.Start) ⌝ }
 {

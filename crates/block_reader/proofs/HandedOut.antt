@@ -9,12 +9,12 @@ use lib.Seq.{sets, length-sets}
 use Rattle.block.specs.Characters.{character}
 use Rattle.block.specs.Write.{isClear}
 use Rattle.block.proofs.Lists.{sets-append, map-append}
-use Rattle.block_framing.specs.declared.Framing.{Framing}
+use Rattle.block_framing.specs.declared.Segments.{Segments}
 use Rattle.block_framing.specs.Framings.{keptBytes, headerIn, textIn, Ordered}
 use Rattle.block_framing.proofs.Reading.{part-slice}
 use Rattle.block_reader.specs.Counts.{CountsKept}
 
-module _ (seven : Bool) (f : Framing) (line : List ℕ) (o : Ordered f (length line)) where
+module _ (seven : Bool) (f : Segments) (line : List ℕ) (o : Ordered f (length line)) where
   header-part : keptBytes false seven false (take (f .inner - f .head) (drop (f .head) line)) ≡ headerIn seven f line
   unfolding headerIn
   header-part = ap (keptBytes false seven false) (part-slice (f .head) (f .inner) line (o .header))

@@ -28,13 +28,13 @@ use Rattle.bits.specs.Calls.{called}
 use Rattle.block.specs.Answers.{block, refused, shapeNumber, readNumber, readValue, ofReadAnswer, afterReading}
 use Rattle.block.proofs.Lists.{map-append}
 use Rattle.block.proofs.Passed.{Passed, passed}
-use Rattle.block_framing.specs.declared.Framing.{Framing}
+use Rattle.block_framing.specs.declared.Segments.{Segments}
 use Rattle.block_framing.specs.declared.WalkEnd.{WalkEnd}
 use Rattle.block_framing.specs.declared.WalkEnd.the-variants as code
 use Rattle.block_framing.specs.Framings.{noTally, tallied, framingAt, framed, refusal, ofWalk, framedAnswer, headerIn, textIn, countedIn, Ordered, Segmented}
 use Rattle.block_framing.proofs.FramingLaws.{segmented, Tallied, tally-counts, framing-shape}
 use Rattle.block_framing.proofs.Reading.{Carries, framing-carries}
-use Rattle.block_reader.specs.Counts.{CountsKept}
+use Rattle.block_reader.specs.Counts.{CountsKept, heldBy}
 
 length-sift : (is : Mark → Bool) (ks : List Mark) (line : List ℕ) → length (sift is ks line) ≤ length line
 length-sift is [] line = omega arith
@@ -47,14 +47,14 @@ length-sift is (k ∷ ks) (b ∷ line) = go (is k) (length-sift is ks line)
 
 -- ---- the framing that was found
 
-pub record Found (m : Method) (p : Parity) (line : List ℕ) (r : Framing) : Type 0 where
+pub record Found (m : Method) (p : Parity) (line : List ℕ) (r : Segments) : Type 0 where
   pub marks : List Mark
   pub field : Field
   pub end : EndSign
   pub rules : rule.framed m p line ≡ found marks field end
   pub framing : r ≡ framingAt field end (tallied noTally 0 marks) (length marks)
 
-pub found-framing : (m : Method) (p : Parity) (line : List ℕ) (r : Framing) → framedAnswer (rule.framed m p line) ≡ framed r → Found m p line r
+pub found-framing : (m : Method) (p : Parity) (line : List ℕ) (r : Segments) → framedAnswer (rule.framed m p line) ≡ framed r → Found m p line r
 found-framing m p line r q = go (rule.framed m p line) refl
   where
     go : (x : Framed) → rule.framed m p line ≡ x → Found m p line r
@@ -65,7 +65,7 @@ found-framing m p line r q = go (rule.framed m p line) refl
         let c : refusal n v ≡ framed r = sym (ap framedAnswer s) ∙ q in
         absurd (let z : _≡_ {A = ℕ} 0 1 = cc in omega arith)
 
-module _ (m : Method) (p : Parity) (line : List ℕ) (r : Framing) (x : Found m p line r) where
+module _ (m : Method) (p : Parity) (line : List ℕ) (r : Segments) (x : Found m p line r) where
   abbrev ks : List Mark
   ks = x .marks
 
@@ -74,11 +74,11 @@ module _ (m : Method) (p : Parity) (line : List ℕ) (r : Framing) (x : Found m 
 
   finds : Segmented (isSeven m) line ks r
   finds =
-      subst (λ (y : Framing). Segmented (isSeven m) line ks y) (sym (x .framing)) (segmented (isSeven m) line ks (x .field) (x .end) (through .walked))
+      subst (λ (y : Segments). Segmented (isSeven m) line ks y) (sym (x .framing)) (segmented (isSeven m) line ks (x .field) (x .end) (through .walked))
 
   carried : Carries (x .end) (tallied noTally 0 ks) (length ks) r
   carried =
-      subst (λ (y : Framing). Carries (x .end) (tallied noTally 0 ks) (length ks) y) (sym (x .framing))
+      subst (λ (y : Segments). Carries (x .end) (tallied noTally 0 ks) (length ks) y) (sym (x .framing))
       (framing-carries (x .field) (x .end) (tallied noTally 0 ks) (length ks))
 
   tally : Tallied ks line
@@ -157,11 +157,10 @@ module _ (m : Method) (p : Parity) (line : List ℕ) (r : Framing) (x : Found m 
 
   -- ---- what a taken block answers and puts out
 
-  pub taken-numbers : block (shapeNumber (r .shape)) (endByte (r .end)) (r .header) (r .text) (r .counted)
-      ≡ ofReadAnswer (taken (partsOf m line ks (x .field) (x .end)))
+  pub taken-numbers : heldBy r ≡ ofReadAnswer (taken (partsOf m line ks (x .field) (x .end)))
   taken-numbers =
       let s : r .shape ≡ shapeOf (hasInner ks) (x .field) =
-      ap (λ (y : Framing). y .shape) (x .framing) ∙ framing-shape (isSeven m) line ks (x .field) (x .end) (through .walked) in
+      ap (λ (y : Segments). y .shape) (x .framing) ∙ framing-shape (isSeven m) line ks (x .field) (x .end) (through .walked) in
       ap₂ (λ i j. block (shapeNumber i) (endByte j) (r .header) (r .text) (r .counted)) s (carried .ends)
       ∙ ap₂ (λ i j. block (shapeNumber (shapeOf (hasInner ks) (x .field))) (endByte (x .end)) i j (r .counted)) header-length text-length
       ∙ ap (block (shapeNumber (shapeOf (hasInner ks) (x .field))) (endByte (x .end)) (length (map (character (isSeven m)) (sift isHeader ks line))) (length (map (character (isSeven m)) (sift isText ks line)))) (carried .counts ∙ tally .counts)

@@ -21,14 +21,14 @@ use Rattle.block.specs.Characters.{withParity}
 use Rattle.block.specs.Check.{checkOf, xorAll}
 use Rattle.block.specs.Write.{isClear}
 use Rattle.block.proofs.CheckLaws.{withParity-lt, matrix-character}
-use Rattle.block_framing.specs.declared.Framing.{Framing}
+use Rattle.block_framing.specs.declared.Segments.{Segments}
 use Rattle.block_framing.specs.Framings.{keptBytes, headerIn, textIn, countedIn, Ordered}
 use Rattle.block_framing.proofs.Reading.{part-slice}
 
 -- ---- the counted bytes, segment by segment
 
 module _ (fold : ℕ → List ℕ → ℕ) (fold-append : (a : ℕ) (xs ys : List ℕ) → fold a (xs ++ ys) ≡ fold (fold a xs) ys)
-    (seven : Bool) (f : Framing) (line : List ℕ) (o : Ordered f (length line)) where
+    (seven : Bool) (f : Segments) (line : List ℕ) (o : Ordered f (length line)) where
   pub folded : (start : ℕ) {header signs text r : ℕ} {clear : Bool}
       → header ≡ fold start (keptBytes false seven false (take (f .inner - f .head) (drop (f .head) line)))
       → signs ≡ fold header (take (f .body - f .inner) (drop (f .inner) line))

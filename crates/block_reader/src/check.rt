@@ -6,7 +6,7 @@ use block::Parity;
 use block::is_clear;
 use block::sum_slice;
 use block::with_parity;
-use block_framing::Framing;
+use block_framing::Segments;
 use cyclic3::Cyclic3;
 use cyclic4::Cyclic4;
 use generator16::Generator16;
@@ -27,7 +27,7 @@ ghost use Rattle.block_framing.specs.Framings.{countedIn, Ordered};
 ghost use Rattle.block_reader.specs.Counts.{CountsKept};
 
 // The counted bytes of a line, entered into a register.
-fn enter_counted(g: Generator16, start: u16, f: Framing, line: &[u8]) -> u16
+fn enter_counted(g: Generator16, start: u16, f: Segments, line: &[u8]) -> u16
     requires { ⌜ Ordered f (length (now line)) ⌝ }
     requires { ⌜ CountsKept false f (now line) ⌝ }
     ensures { λ r. ⌜ r ≡ registerAfter g start (countedIn false f (now (line .entry))) ⌝ }
@@ -45,7 +45,7 @@ fn enter_counted(g: Generator16, start: u16, f: Framing, line: &[u8]) -> u16
 }
 
 // The same of methods 1 and 2, summed bit by bit.
-fn sum_counted(f: Framing, line: &[u8]) -> u8
+fn sum_counted(f: Segments, line: &[u8]) -> u8
     requires { ⌜ Ordered f (length (now line)) ⌝ }
     requires { ⌜ CountsKept true f (now line) ⌝ }
     ensures { λ r. ⌜ r ≡ xorAll 0 (countedIn true f (now (line .entry))) ⌝ }
@@ -62,7 +62,7 @@ fn sum_counted(f: Framing, line: &[u8]) -> u8
     text ^ line[last]
 }
 
-fn check_3(f: Framing, line: &[u8]) -> u16
+fn check_3(f: Segments, line: &[u8]) -> u16
     requires { ⌜ Ordered f (length (now line)) ⌝ }
     requires { ⌜ CountsKept false f (now line) ⌝ }
     ensures { λ r. ⌜ lowBits 16 r ≡ checkBits method3 (bitsOf (countedIn false f (now (line .entry)))) ⌝ }
@@ -72,7 +72,7 @@ fn check_3(f: Framing, line: &[u8]) -> u16
     cyclic.check()
 }
 
-fn check_4(f: Framing, line: &[u8]) -> u16
+fn check_4(f: Segments, line: &[u8]) -> u16
     requires { ⌜ Ordered f (length (now line)) ⌝ }
     requires { ⌜ CountsKept false f (now line) ⌝ }
     ensures { λ r. ⌜ lowBits 16 r ≡ checkBits method4 (bitsOf (countedIn false f (now (line .entry)))) ⌝ }
@@ -96,7 +96,7 @@ fn is_sent(check: u16, line: &[u8], at: usize) -> bool
 }
 
 // Question 18: whether what follows the end sign is the check of the counted bytes.
-pub fn check_right(m: Method, p: Parity, f: Framing, line: &[u8]) -> bool
+pub(crate) fn check_right(m: Method, p: Parity, f: Segments, line: &[u8]) -> bool
     requires { ⌜ Ordered f (length (now line)) ⌝ }
     requires { ⌜ length (now line) ≡ f .after + checkLength m ⌝ }
     requires { ⌜ CountsKept (isSeven m) f (now line) ⌝ }

@@ -8,7 +8,7 @@ use block::Parity;
 use block::ReadRefusal;
 use block::is_clear;
 use block::is_seven;
-use block_framing::Framing;
+use block_framing::Segments;
 use block_framing::WalkEnd;
 use block_framing::find_framing;
 ghost use mathlib.Core.Path.{_≡_};
@@ -20,7 +20,7 @@ ghost use Rattle.bits.specs.Calls.{called};
 ghost use Rattle.block.specs.Characters.{character};
 ghost use Rattle.block.specs.Answers.{ofRead, readCall};
 ghost use Rattle.block_framing.specs.Framings.{ofWalk, ofUnframed, headerIn, textIn, Ordered};
-ghost use Rattle.block_reader.specs.Counts.{CountsKept};
+ghost use Rattle.block_reader.specs.Counts.{CountsKept, heldBy};
 
 // The refusal of a walk that found no framing.
 fn unframed(w: WalkEnd) -> BlockRead
@@ -32,8 +32,23 @@ fn unframed(w: WalkEnd) -> BlockRead
     }
 }
 
+// What an accepted block holds.
+fn taken(f: Segments) -> BlockRead
+    ensures { λ r. ⌜ ofRead r ≡ heldBy f ⌝ }
+{
+    let shape = f.shape;
+    let end = f.end;
+    BlockRead::Taken(Block {
+        shape,
+        end,
+        header: f.header,
+        text: f.text,
+        counted: f.counted,
+    })
+}
+
 // Header, then text, at the start of the output.
-fn hand_out(seven: bool, f: Framing, line: &[u8], out: &mut [u8])
+fn hand_out(seven: bool, f: Segments, line: &[u8], out: &mut [u8])
     requires { ⌜ Ordered f (length (now line)) ⌝ }
     requires { ⌜ CountsKept seven f (now line) ⌝ }
     requires { ⌜ f .header + f .text ≤ length (now out) ⌝ }
@@ -71,13 +86,5 @@ pub fn read_block(method: Method, parity: Parity, line: &[u8], out: &mut [u8]) -
         return BlockRead::Refused(ReadRefusal::OutputShort(needed));
     }
     hand_out(is_seven(method), f, line, &mut *out);
-    let shape = f.shape;
-    let end = f.end;
-    BlockRead::Taken(Block {
-        shape,
-        end,
-        header: f.header,
-        text: f.text,
-        counted: f.counted,
-    })
+    taken(f)
 }

@@ -111,7 +111,7 @@ fn enter_gathered(g: Generator16, start: u16, part: &[u8]) -> u16
 }
 
 // A segment of methods 3 and 4, which keeps `kept` bytes, entered into a register.
-pub fn enter_part(g: Generator16, start: u16, clear: bool, kept: usize, part: &[u8]) -> u16
+pub(crate) fn enter_part(g: Generator16, start: u16, clear: bool, kept: usize, part: &[u8]) -> u16
     requires { ⌜ kept ≡ length (keptBytes clear false false (now part)) ⌝ }
     ensures { λ r. ⌜ r ≡ registerAfter g start (keptBytes clear false false (now (part .entry))) ⌝ }
 {
@@ -147,7 +147,7 @@ fn sum_kept(start: u8, clear: bool, part: &[u8]) -> u8
 }
 
 // A segment of methods 1 and 2, which keeps `kept` bytes, summed bit by bit.
-pub fn sum_part(start: u8, clear: bool, kept: usize, part: &[u8]) -> u8
+pub(crate) fn sum_part(start: u8, clear: bool, kept: usize, part: &[u8]) -> u8
     requires { ⌜ kept ≡ length (keptBytes clear true false (now part)) ⌝ }
     ensures { λ r. ⌜ r ≡ xorAll start (keptBytes clear true false (now (part .entry))) ⌝ }
 {
@@ -206,7 +206,7 @@ fn copy_kept(seven: bool, clear: bool, part: &[u8], out: &mut [u8], at: usize) -
 }
 
 // The characters of the `kept` bytes of a segment stored from the place `at` on; answers the place after them.
-pub fn copy_part(
+pub(crate) fn copy_part(
     seven: bool,
     clear: bool,
     kept: usize,

@@ -22,7 +22,7 @@ fn start_length(shape: Shape) -> usize
     }
 }
 
-pub fn inner_length(shape: Shape) -> usize
+pub(crate) fn inner_length(shape: Shape) -> usize
     ensures { λ r. ⌜ r ≡ length (rule.innerSigns shape) ⌝ }
 {
     match shape {
@@ -63,7 +63,7 @@ fn body_length(clear: bool, text: &[u8]) -> usize
     }
 }
 
-pub fn line_length(method: Method, shape: Shape, header: usize, text: &[u8]) -> usize
+pub(crate) fn line_length(method: Method, shape: Shape, header: usize, text: &[u8]) -> usize
     requires { ⌜ (header ≤ 4096) × (length (now text) ≤ 4096) ⌝ }
     ensures { λ r. ⌜ r ≡ lineLength method shape header (now (text .entry)) ⌝ }
 {

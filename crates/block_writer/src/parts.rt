@@ -19,14 +19,14 @@ ghost use Rattle.block.specs.Write as rule;
 ghost use Rattle.block_writer.specs.Writing.{reservedFrom};
 
 // Question 1: seven-bit characters do not carry clear text.
-pub fn carries(seven: bool, clear: bool) -> bool
+pub(crate) fn carries(seven: bool, clear: bool) -> bool
     ensures { λ r. ⌜ r ≡ not (seven && clear) ⌝ }
 {
     if seven { !clear } else { true }
 }
 
 // Question 4: a part that the shape lacks is empty.
-pub fn parts_fit(shape: Shape, header: usize, text: usize) -> bool
+pub(crate) fn parts_fit(shape: Shape, header: usize, text: usize) -> bool
     ensures { λ r. ⌜ r ≡ (rule.hasHeader shape || eqb header 0) && (rule.hasText shape || eqb text 0) ⌝ }
 {
     match shape {
@@ -70,7 +70,7 @@ fn free_up_to(seven: bool, part: &[u8]) -> usize
 }
 
 // The first place of a part whose byte is not free, or the part's length.
-pub fn first_reserved(seven: bool, part: &[u8]) -> usize
+pub(crate) fn first_reserved(seven: bool, part: &[u8]) -> usize
     ensures { λ r. ⌜ r ≡ reservedFrom seven 0 (now (part .entry)) ⌝ }
 {
     let mut i = free_up_to(seven, part);
@@ -84,7 +84,7 @@ pub fn first_reserved(seven: bool, part: &[u8]) -> usize
 }
 
 // The same in a text: clear text may hold every byte.
-pub fn first_reserved_text(seven: bool, clear: bool, text: &[u8]) -> usize
+pub(crate) fn first_reserved_text(seven: bool, clear: bool, text: &[u8]) -> usize
     ensures { λ r. ⌜ r ≡ cond clear (length (now (text .entry))) (reservedFrom seven 0 (now (text .entry))) ⌝ }
 {
     if clear {
@@ -95,7 +95,7 @@ pub fn first_reserved_text(seven: bool, clear: bool, text: &[u8]) -> usize
 }
 
 // Question 5: header, inner start, text and end sign are at most 4,096.
-pub fn count_fits(shape: Shape, header: usize, text: usize) -> bool
+pub(crate) fn count_fits(shape: Shape, header: usize, text: usize) -> bool
     ensures { λ r. ⌜ r ≡ leb (header + length (rule.innerSigns shape) + text + 1) 4096 ⌝ }
 {
     if header > COUNTED_LIMIT {

@@ -26,7 +26,7 @@ fn sent(seven: bool, p: Parity, b: u8) -> u8
 }
 
 // Stores one byte, and answers the next place, as each function `put_..` does.
-pub fn put(b: u8, out: &mut [u8], at: usize) -> usize
+pub(crate) fn put(b: u8, out: &mut [u8], at: usize) -> usize
     requires { ⌜ at + 1 ≤ length (now out) ⌝ }
     ensures { λ r. ⌜ Stored (now (out .entry)) at (b ∷ []) (now (out .exit)) r ⌝ }
 {
@@ -35,7 +35,7 @@ pub fn put(b: u8, out: &mut [u8], at: usize) -> usize
 }
 
 // Characters one by one, each with its parity bit in methods 1 and 2. Signs and checks are stored so: they are one or two bytes.
-pub fn put_each(seven: bool, parity: Parity, part: &[u8], out: &mut [u8], at: usize) -> usize
+pub(crate) fn put_each(seven: bool, parity: Parity, part: &[u8], out: &mut [u8], at: usize) -> usize
     requires { ⌜ at + length (now part) ≤ length (now out) ⌝ }
     ensures { λ r. ⌜ Stored (now (out .entry)) at (map (characters.sent seven parity) (now (part .entry))) (now (out .exit)) r ⌝ }
 {
@@ -77,7 +77,13 @@ fn put_sixteen(bytes: &[u8; 16], out: &mut [u8], at: usize) -> usize
 
 // Characters, each with its parity bit in methods 1 and 2. The compiler takes 32 and more together by itself; of 16 to 31, the first
 // 16 are made and stored at once here.
-pub fn put_characters(seven: bool, parity: Parity, part: &[u8], out: &mut [u8], at: usize) -> usize
+pub(crate) fn put_characters(
+    seven: bool,
+    parity: Parity,
+    part: &[u8],
+    out: &mut [u8],
+    at: usize,
+) -> usize
     requires { ⌜ at + length (now part) ≤ length (now out) ⌝ }
     ensures { λ r. ⌜ Stored (now (out .entry)) at (map (characters.sent seven parity) (now (part .entry))) (now (out .exit)) r ⌝ }
 {
@@ -119,7 +125,13 @@ fn put_escaped(part: &[u8], out: &mut [u8], at: usize) -> usize
 }
 
 // SOH where there is a header, else the signs before the text.
-pub fn put_start(seven: bool, parity: Parity, shape: Shape, out: &mut [u8], at: usize) -> usize
+pub(crate) fn put_start(
+    seven: bool,
+    parity: Parity,
+    shape: Shape,
+    out: &mut [u8],
+    at: usize,
+) -> usize
     requires { ⌜ at + length (rule.startSigns shape) ≤ length (now out) ⌝ }
     ensures { λ r. ⌜ Stored (now (out .entry)) at (map (characters.sent seven parity) (rule.startSigns shape)) (now (out .exit)) r ⌝ }
 {
@@ -133,7 +145,13 @@ pub fn put_start(seven: bool, parity: Parity, shape: Shape, out: &mut [u8], at: 
 }
 
 // The signs between header and text.
-pub fn put_inner(seven: bool, parity: Parity, shape: Shape, out: &mut [u8], at: usize) -> usize
+pub(crate) fn put_inner(
+    seven: bool,
+    parity: Parity,
+    shape: Shape,
+    out: &mut [u8],
+    at: usize,
+) -> usize
     requires { ⌜ at + length (rule.innerSigns shape) ≤ length (now out) ⌝ }
     ensures { λ r. ⌜ Stored (now (out .entry)) at (map (characters.sent seven parity) (rule.innerSigns shape)) (now (out .exit)) r ⌝ }
 {
@@ -147,7 +165,7 @@ pub fn put_inner(seven: bool, parity: Parity, shape: Shape, out: &mut [u8], at: 
 }
 
 // Text and end sign, which has a DLE before it in clear text.
-pub fn put_body(
+pub(crate) fn put_body(
     seven: bool,
     parity: Parity,
     clear: bool,

@@ -55,7 +55,7 @@ fn any_bits(part: &[u8], at: usize) -> u8
 }
 
 // Whether all of the 16 bytes from the place `at` on are free.
-pub fn sixteen_free(seven: bool, part: &[u8], at: usize) -> bool
+pub(crate) fn sixteen_free(seven: bool, part: &[u8], at: usize) -> bool
     requires { ⌜ at + 16 ≤ length (now part) ⌝ }
     ensures { λ r. ⌜ (r ≡ true → (k : ℕ) → at ≤ k → k < at + 16 → isFree seven (getD (now (part .entry)) k 0) ≡ true) ⌝ }
 {

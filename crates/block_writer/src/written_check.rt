@@ -49,7 +49,7 @@ fn written_register(
     enter_one(g, body, end_byte(end))
 }
 
-pub fn check_3(shape: Shape, end: EndSign, header: &[u8], text: &[u8]) -> [u8; 2]
+pub(crate) fn check_3(shape: Shape, end: EndSign, header: &[u8], text: &[u8]) -> [u8; 2]
     ensures { λ r. ⌜ r ≡ pack (checkBits method3 (bitsOf (checkedBytes shape end (now (header .entry)) (now (text .entry))))) ⌝ }
 {
     let g = Generator16::Ccitt;
@@ -58,7 +58,7 @@ pub fn check_3(shape: Shape, end: EndSign, header: &[u8], text: &[u8]) -> [u8; 2
     sent16(cyclic.check())
 }
 
-pub fn check_4(shape: Shape, end: EndSign, header: &[u8], text: &[u8]) -> [u8; 2]
+pub(crate) fn check_4(shape: Shape, end: EndSign, header: &[u8], text: &[u8]) -> [u8; 2]
     ensures { λ r. ⌜ r ≡ pack (checkBits method4 (bitsOf (checkedBytes shape end (now (header .entry)) (now (text .entry))))) ⌝ }
 {
     let g = Generator16::Ibm;
@@ -81,7 +81,7 @@ fn inner_sum(start: u8, shape: Shape) -> u8
 }
 
 // The counted bytes summed bit by bit.
-pub fn written_sum(shape: Shape, end: EndSign, header: &[u8], text: &[u8]) -> u8
+pub(crate) fn written_sum(shape: Shape, end: EndSign, header: &[u8], text: &[u8]) -> u8
     ensures { λ r. ⌜ r ≡ xorAll 0 (checkedBytes shape end (now (header .entry)) (now (text .entry))) ⌝ }
 {
     let head = sum_slice(0, header);
