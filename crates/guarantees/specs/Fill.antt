@@ -1,4 +1,5 @@
--- A line without its fill signs (document 01, part 3): SYN in header and plain text, DLE SYN in clear text. Assumes nothing.
+-- A line without its fill signs (document 01, part 3; document 02, card 1): SYN ahead of the start, in header and in plain text,
+-- DLE SYN in clear text. Assumes nothing.
 use Prim.Native.Nat.{ℕ}
 use mathlib.Core.Bool.{Bool, true, false, not, _&&_}
 use mathlib.Core.List.{List, [], _∷_}
@@ -34,7 +35,7 @@ isDle other = false
 
 -- whether a byte is a fill sign, by the field in which it stands, its sign and the sign after it
 abbrev pub isFill : Field → Sign → Sign → Bool
-isFill Start s next = false
+isFill Start s next = isSyn s
 isFill StartDle s next = false
 isFill Header s next = isSyn s
 isFill HeaderDle s next = false
