@@ -9,3 +9,5 @@ pub mod Taken
 pub mod Second
 pub mod Beyond
 pub mod Rows
+pub mod Before
+pub mod LeadingFill
