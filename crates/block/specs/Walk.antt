@@ -14,7 +14,7 @@ use Rattle.block.specs.declared.Judged.the-variants.{Is, Ends, NoStart, 
 use Rattle.block.specs.Signs.{Sign, soh, stx, etx, dle, syn, etb, us, other, signOf}
 use Rattle.block.specs.Characters.{character}
 
--- the start, left out: SOH, STX or, in methods 3 and 4, DLE STX; and SYN ahead of it (document 02, card 1)
+-- the start, left out: SOH, STX or, in methods 3 and 4, DLE STX. SYN ahead of it is left out too (document 02, card 1)
 abbrev pub inStart : Bool → Sign → Judged
 inStart seven soh = Is LeftOut Header
 inStart seven stx = Is LeftOut Text

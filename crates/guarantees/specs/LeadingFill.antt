@@ -3,13 +3,11 @@
 use mathlib.Core.Path.{_≡_}
 use Prim.Native.Nat.{ℕ, _+_, _≤_}
 use mathlib.Core.Bool.{Bool, cond, _||_}
-use mathlib.Core.List.{List, [], _∷_, _++_}
+use mathlib.Core.List.{List, [], _∷_, _++_, map}
 use lib.Dec.{leb, eqb}
 use lib.ListN.{length, replicate}
 use Rattle.block.specs.declared.Method.{Method}
 use Rattle.block.specs.declared.Parity.{Parity}
-use Rattle.block.specs.declared.EndSign.{EndSign}
-use Rattle.block.specs.declared.Mark.{Mark}
 use Rattle.block.specs.declared.Mark.the-variants.{LeftOut}
 use Rattle.block.specs.declared.Field.{Field}
 use Rattle.block.specs.declared.Field.the-variants.{Start, StartDle, Header, HeaderDle, Text, Clear, ClearDle}
@@ -18,7 +16,8 @@ use Rattle.block.specs.declared.Judged.the-variants.{Is, NoStart}
 use Rattle.block.specs.Signs.{Sign, soh, stx, etx, dle, syn, etb, us, other, signOf, SYN}
 use Rattle.block.specs.Characters.{isSeven, character, sent}
 use Rattle.block.specs.Walk.{inStartDle, inHeader, inHeaderDle, inText, inClear, inClearDle, Walked, halt, cut, onward}
-use Rattle.block.specs.Read.{Framed, found, ask, askParities, askWalk, framed, ReadAnswer, taken, refusal, askCheck, readBlock}
+use Rattle.block.specs.Marks.{LeftOutByte, leftOut}
+use Rattle.block.specs.Read.{Framed, ask, askParities, askWalk, framing, framingOf, ReadAnswer, taken, refusal, askCheck, readBlock}
 use Rattle.guarantees.specs.Blocks.{Accepts, Accepted}
 use Rattle.guarantees.specs.Fill.{firstSign, withoutFill}
 
@@ -61,46 +60,47 @@ readBefore m p line room = askCheck m p line room (framedBefore m p line)
 abbrev pub BeginsWithSyn : Method → List ℕ → Type 0
 BeginsWithSyn m line = firstSign (isSeven m) line ≡ syn
 
-pub record ReadAsBefore : Type 0 where
+pub record ReadAsBefore (m : Method) (p : Parity) : Type 0 where
   -- a line that does not begin with SYN has the same answer, at every output length
-  pub same-answer : (m : Method) (p : Parity) (line : List ℕ) (room : ℕ) → (BeginsWithSyn m line → ⊥)
-      → readBlock m p line room ≡ readBefore m p line room
+  pub same-answer : (line : List ℕ) (room : ℕ) → (BeginsWithSyn m line → ⊥) → readBlock m p line room ≡ readBefore m p line room
   -- a line that was taken, or answered 19, does not begin with SYN
-  pub without-syn : (m : Method) (p : Parity) (line : List ℕ) (room : ℕ) → Accepts (readBefore m p line room) → BeginsWithSyn m line → ⊥
+  pub without-syn : (line : List ℕ) (room : ℕ) → Accepts (readBefore m p line room) → BeginsWithSyn m line → ⊥
   -- so it reads as before
-  pub taken-before : (m : Method) (p : Parity) (line : List ℕ) (room : ℕ) → Accepts (readBefore m p line room)
-      → readBlock m p line room ≡ readBefore m p line room
+  pub taken-before : (line : List ℕ) (room : ℕ) → Accepts (readBefore m p line room) → readBlock m p line room ≡ readBefore m p line room
 
 -- ---- leading fill changes nothing but the framing
 
--- k SYN, as the link sends them, ahead of a line
-abbrev pub synAhead : Method → Parity → ℕ → List ℕ → List ℕ
-synAhead m p k line = replicate k (sent (isSeven m) p SYN) ++ line
+-- k SYN, as the link sends them
+abbrev pub fill : Method → Parity → ℕ → List ℕ
+fill m p k = replicate k (sent (isSeven m) p SYN)
 
 -- the refusals that carry a place; 13, 15, 17 and 18 carry 0, 19 the needed bytes
 abbrev pub carriesPlace : ℕ → Bool
 carriesPlace number = eqb number 12 || (eqb number 14 || eqb number 16)
 
--- k places further
-abbrev pub moved : ℕ → ℕ → ℕ → ℕ
-moved k number value = cond (carriesPlace number) (value + k) value
+-- a place is moved by k
+abbrev pub movedValue : ℕ → ℕ → ℕ → ℕ
+movedValue k number value = cond (carriesPlace number) (value + k) value
 
 abbrev pub movedAnswer : ℕ → ReadAnswer → ReadAnswer
 movedAnswer k (taken parts) = taken parts
-movedAnswer k (refusal number value) = refusal number (moved k number value)
+movedAnswer k (refusal number value) = refusal number (movedValue k number value)
 
-pub record LeadingFill : Type 0 where
+-- so is a left-out byte
+abbrev pub movedByte : ℕ → LeftOutByte → LeftOutByte
+movedByte k o = record { place = o .place + k; value = o .value }
+
+-- k SYN ahead of a line, 16,384 bytes at most in all
+pub record LeadingFill (m : Method) (p : Parity) (k : ℕ) : Type 0 where
   -- the same parts, at the same output lengths; or the same number, its place moved by k
-  pub same-answer : (m : Method) (p : Parity) (k : ℕ) (line : List ℕ) (room : ℕ) → length (synAhead m p k line) ≤ 16384
-      → readBlock m p (synAhead m p k line) room ≡ movedAnswer k (readBlock m p line room)
+  pub same-answer : (line : List ℕ) (room : ℕ) → length (fill m p k ++ line) ≤ 16384
+      → readBlock m p (fill m p k ++ line) room ≡ movedAnswer k (readBlock m p line room)
   -- so an accepted line stays accepted
-  pub accepted : (m : Method) (p : Parity) (k : ℕ) (line : List ℕ) → length (synAhead m p k line) ≤ 16384
-      → Accepted m p line → Accepted m p (synAhead m p k line)
-  -- its framing gains the fill: k bytes more are left out, ahead of all others
-  pub framing : (m : Method) (p : Parity) (k : ℕ) (line : List ℕ) (ks : List Mark) (f : Field) (e : EndSign)
-      → length (synAhead m p k line) ≤ 16384 → framed m p line ≡ found ks f e
-      → framed m p (synAhead m p k line) ≡ found (replicate k LeftOut ++ ks) f e
-  -- and writing back what was read drops it
-  pub dropped : (m : Method) (p : Parity) (k : ℕ) (line : List ℕ) → withoutFill m (synAhead m p k line) ≡ withoutFill m line
+  pub stays-accepted : (line : List ℕ) → length (fill m p k ++ line) ≤ 16384 → Accepted m p line → Accepted m p (fill m p k ++ line)
+  -- its framing begins with the fill, and all else stands k places further
+  pub in-framing : (line : List ℕ) (os : List LeftOutByte) → length (fill m p k ++ line) ≤ 16384 → framingOf m p line ≡ framing os
+      → framingOf m p (fill m p k ++ line) ≡ framing (leftOut 0 (replicate k LeftOut) (fill m p k) ++ map (movedByte k) os)
+  -- writing back what was read drops it
+  pub dropped : (line : List ℕ) → withoutFill m (fill m p k ++ line) ≡ withoutFill m line
   -- SYN alone is no start
-  pub syn-alone : (m : Method) (p : Parity) (k room : ℕ) → k ≤ 16384 → readBlock m p (replicate k (sent (isSeven m) p SYN)) room ≡ refusal 13 0
+  pub syn-alone : (room : ℕ) → k ≤ 16384 → readBlock m p (fill m p k) room ≡ refusal 13 0

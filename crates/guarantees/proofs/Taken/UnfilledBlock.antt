@@ -58,8 +58,8 @@ module _ (seven : Bool) (p : Parity) where
         allowed = record { carried = plain-carried seven; header-fits = refl; text-fits = refl; header-free = tt; text-free = tt };
       }
 
-  pub header-byte : {g : Field} {e : EndSign} {ks : List Mark} {line left : List ℕ} {b c : ℕ} → Carries seven p b c → BlockLeft true g e ks line left
-      → isFree seven c ≡ true → BlockLeft true g e (HeaderByte ∷ ks) (b ∷ line) (b ∷ left)
+  pub header-byte : {g : Field} {e : EndSign} {ks : List Mark} {line left : List ℕ} {b c : ℕ} → Carries seven p b c
+      → BlockLeft true g e ks line left → isFree seven c ≡ true → BlockLeft true g e (HeaderByte ∷ ks) (b ∷ line) (b ∷ left)
   header-byte {c = c} d h f =
       record {
         kind = h .kind;

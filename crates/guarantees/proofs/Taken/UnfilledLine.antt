@@ -82,7 +82,8 @@ module _ (seven : Bool) (p : Parity) where
       (in-block : (started : Bool) → go (blockField started) .stop ≡ ended g e
       → BlockLeft seven p started g e (go (blockField started) .marks) rest (left (blockField started))) where
     -- a DLE of the header or at the start
-    dle-step : (started t : Bool) → seven ≡ t → OfSign dle (character seven b) → onward go (blockField started) at (dleJudged started t) .stop ≡ ended g e
+    dle-step : (started t : Bool) → seven ≡ t → OfSign dle (character seven b)
+        → onward go (blockField started) at (dleJudged started t) .stop ≡ ended g e
         → BlockLeft seven p started g e (onward go (blockField started) at (dleJudged started t) .marks) (b ∷ rest)
         (b ∷ unfilledBehind left rest (dleJudged started t))
     dle-step true true q o h = absurd (not-ended h)
@@ -131,5 +132,5 @@ module _ (seven : Bool) (p : Parity) where
   block-left false [] r at h = absurd (not-ended h)
   block-left started (b ∷ rest) r at h =
       block-step b rest (r .0) at (walk seven rest (at + 1)) (unfilled seven rest) (text-left seven p rest (r .1) (at + 1) plain-text)
-      (λ started. clear-left started rest (r .1) (at + 1)) (λ started. block-left started rest (r .1) (at + 1)) started (signOf (character seven b)) refl
-      (of-sign (character seven b)) h
+      (λ started. clear-left started rest (r .1) (at + 1)) (λ started. block-left started rest (r .1) (at + 1)) started
+      (signOf (character seven b)) refl (of-sign (character seven b)) h

@@ -1,5 +1,5 @@
 -- Lines taken before fill was left out ahead of the start read as before: behind the start both walks are one. Assumes nothing.
-use mathlib.Core.Path.{_≡_, refl, sym, ap, _∙_}
+use mathlib.Core.Path.{_≡_, refl, ap, _∙_}
 use Prim.Native.Nat.{ℕ, _+_, _≤_}
 use native.Mathlib.Omega.{arith}
 use mathlib.Core.Bool.{Bool, true, false, cond}
@@ -8,7 +8,6 @@ use lib.Dec.{leb}
 use lib.ListN.{length}
 use Rattle.block.specs.declared.Method.{Method}
 use Rattle.block.specs.declared.Parity.{Parity}
-use Rattle.block.specs.declared.Mark.the-variants.{LeftOut}
 use Rattle.block.specs.declared.Field.{Field}
 use Rattle.block.specs.declared.Field.the-variants.{Start, StartDle, Header, HeaderDle, Text, Clear, ClearDle}
 use Rattle.block.specs.declared.Judged.{Judged}
@@ -96,7 +95,8 @@ start-same seven (b ∷ rest) h = go (signOf (character seven b)) h
     behind : (j : Judged) → Stays j → onward (walk seven rest 1) Start 0 j ≡ onward (walkBefore seven rest 1) Start 0 j
     behind = onward-same (walk seven rest 1) (walkBefore seven rest 1) (walk-same seven rest 1) Start 0
 
-    go : (s : Sign) → (s ≡ syn → ⊥) → onward (walk seven rest 1) Start 0 (inStart seven s) ≡ onward (walkBefore seven rest 1) Start 0 (inStartBefore seven s)
+    go : (s : Sign) → (s ≡ syn → ⊥)
+        → onward (walk seven rest 1) Start 0 (inStart seven s) ≡ onward (walkBefore seven rest 1) Start 0 (inStartBefore seven s)
     go soh h = behind (inStart seven soh) tt
     go stx h = behind (inStart seven stx) tt
     go etx h = refl
@@ -156,10 +156,10 @@ module _ (m : Method) (p : Parity) where
   unfolding readBefore
   without-syn line room a e = not-accepted m p line room (framedBefore m p line) (syn-refused line e) a
 
-pub read-as-before : ReadAsBefore
-read-as-before =
+pub read-as-before : (m : Method) (p : Parity) → ReadAsBefore m p
+read-as-before m p =
     record {
-      same-answer = same-answer;
-      without-syn = without-syn;
-      taken-before = λ m p line room a. same-answer m p line room (without-syn m p line room a);
+      same-answer = same-answer m p;
+      without-syn = without-syn m p;
+      taken-before = λ line room a. same-answer m p line room (without-syn m p line room a);
     }
