@@ -130,19 +130,20 @@ not-accepted m p line room (found ks f e) h a = h
 not-accepted m p line room (unframed n v) h a = omega arith
 
 module _ (m : Method) (p : Parity) where
-  -- the questions 11 to 17 of a line, by its walk
+  -- questions 11 to 17, by the walk over a line
   abbrev framedBy : List ℕ → Walked → Framed
   framedBy line w = ask (leb (length line) 16384) 11 0 (cond (isSeven m) (askParities p line 0 (askWalk m line w)) (askWalk m line w))
+
+  walk-refused : (line : List ℕ) (w : Walked) → Refused (askWalk m line w) → Refused (framedBy line w)
+  walk-refused line w h =
+      let next = askWalk m line w in
+      ask-refused (leb (length line) 16384) 11 0 _ (omega arith)
+      (either-refused (isSeven m) (askParities p line 0 next) next (parities-refused p line 0 next h) h)
 
   syn-refused : (line : List ℕ) → BeginsWithSyn m line → Refused (framedBefore m p line)
   unfolding framedBefore
   syn-refused [] e = absurd (let z : _≡_ {A = ℕ} 0 1 = cc in omega arith)
-  syn-refused (b ∷ rest) e =
-      let w = onward (walkBefore (isSeven m) rest 1) Start 0 (inStartBefore (isSeven m) (signOf (character (isSeven m) b))) in
-      let next = askWalk m (b ∷ rest) w in
-      let no : Refused next = rw e (omega arith) in
-      ask-refused (leb (length (b ∷ rest)) 16384) 11 0 _ (omega arith)
-      (either-refused (isSeven m) (askParities p (b ∷ rest) 0 next) next (parities-refused p (b ∷ rest) 0 next no) no)
+  syn-refused (b ∷ rest) e = walk-refused (b ∷ rest) (walkBefore (isSeven m) (b ∷ rest) 0 Start) (rw e (omega arith))
 
   framed-same : (line : List ℕ) → (BeginsWithSyn m line → ⊥) → framed m p line ≡ framedBefore m p line
   unfolding framed framedBefore
