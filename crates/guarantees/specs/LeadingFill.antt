@@ -78,7 +78,7 @@ fill m p k = replicate k (sent (isSeven m) p SYN)
 abbrev pub carriesPlace : ℕ → Bool
 carriesPlace number = eqb number 12 || (eqb number 14 || eqb number 16)
 
--- a place is moved by k
+-- the value of a refusal, k places further where it is a place
 abbrev pub movedValue : ℕ → ℕ → ℕ → ℕ
 movedValue k number value = cond (carriesPlace number) (value + k) value
 
@@ -86,7 +86,7 @@ abbrev pub movedAnswer : ℕ → ReadAnswer → ReadAnswer
 movedAnswer k (taken parts) = taken parts
 movedAnswer k (refusal number value) = refusal number (movedValue k number value)
 
--- so is a left-out byte
+-- a left-out byte, k places further
 abbrev pub movedByte : ℕ → LeftOutByte → LeftOutByte
 movedByte k o = record { place = o .place + k; value = o .value }
 
@@ -97,7 +97,7 @@ pub record LeadingFill (m : Method) (p : Parity) (k : ℕ) : Type 0 where
       → readBlock m p (fill m p k ++ line) room ≡ movedAnswer k (readBlock m p line room)
   -- so an accepted line stays accepted
   pub stays-accepted : (line : List ℕ) → length (fill m p k ++ line) ≤ 16384 → Accepted m p line → Accepted m p (fill m p k ++ line)
-  -- its framing begins with the fill, and all else stands k places further
+  -- the framing begins with the fill, and the line's left-out bytes stand k places further
   pub in-framing : (line : List ℕ) (os : List LeftOutByte) → length (fill m p k ++ line) ≤ 16384 → framingOf m p line ≡ framing os
       → framingOf m p (fill m p k ++ line) ≡ framing (leftOut 0 (replicate k LeftOut) (fill m p k) ++ map (movedByte k) os)
   -- writing back what was read drops it
