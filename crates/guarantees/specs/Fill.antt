@@ -9,29 +9,9 @@ use Rattle.block.specs.declared.Field.{Field}
 use Rattle.block.specs.declared.Field.the-variants.{Start, StartDle, Header, HeaderDle, Text, Clear, ClearDle}
 use Rattle.block.specs.declared.Judged.{Judged}
 use Rattle.block.specs.declared.Judged.the-variants.{Is, Ends, NoStart, OutOfPlace, DleOutOfPlace}
-use Rattle.block.specs.Signs.{Sign, soh, stx, etx, dle, syn, etb, us, other, signOf}
+use Rattle.block.specs.Signs.{Sign, other, signOf, isSyn, isDle}
 use Rattle.block.specs.Characters.{isSeven, character}
 use Rattle.block.specs.Walk.{judge}
-
-abbrev pub isSyn : Sign → Bool
-isSyn soh = false
-isSyn stx = false
-isSyn etx = false
-isSyn dle = false
-isSyn syn = true
-isSyn etb = false
-isSyn us = false
-isSyn other = false
-
-abbrev pub isDle : Sign → Bool
-isDle soh = false
-isDle stx = false
-isDle etx = false
-isDle dle = true
-isDle syn = false
-isDle etb = false
-isDle us = false
-isDle other = false
 
 -- whether a byte is a fill sign, by the field in which it stands, its sign and the sign after it
 abbrev pub isFill : Field → Sign → Sign → Bool
