@@ -77,7 +77,8 @@ extern "C" {
  *
  *   method       1 to 4
  *   parity       0 even, 1 odd
- *   line         the whole line: start, fields, end sign, check
+ *   line         the whole line: fill signs, if any, start, fields, end
+ *                sign, check
  *   out          takes the header, then the text, both without fill signs,
  *                without doubled DLE and without the inner start; top bits
  *                clear in methods 1 and 2. As many bytes as the line always
@@ -93,7 +94,8 @@ extern "C" {
  *   11  the line is over 16,384 bytes
  *   12  methods 1, 2: a byte has the wrong parity; first such place. Asked of
  *       every byte, also behind the end sign
- *   13  the line does not start with SOH, STX or, in methods 3 and 4, DLE STX
+ *   13  behind leading SYN the line does not start with SOH, STX or, in
+ *       methods 3 and 4, DLE STX
  *   14  a byte is out of place before the end sign; its place. In a header:
  *       SOH, and DLE unless STX follows. In plain text: SOH, STX and DLE. In
  *       clear text: DLE before anything but DLE, SYN or an end sign; the

@@ -113,22 +113,25 @@ static int walk_header(struct walk *w)
     return walk_clear(w);
 }
 
-/* Questions 13 to 15; a found end sign is counted. */
+/* Questions 13 to 15, behind leading SYN; a found end sign is counted. */
 static int walk(struct walk *w)
 {
     uint8_t mask = w->table ? 0xff : 0x7f;
-    uint8_t first = w->length > 0 ? w->line[0] & mask : 0;
+    size_t start = 0;
+    while (start < w->length && (w->line[start] & mask) == SYN)
+        start++;
+    uint8_t first = start < w->length ? w->line[start] & mask : 0;
     int end;
-    w->place = 1;
+    w->place = start + 1;
     if (first == SOH) {
         w->shape = 1;
         end = walk_header(w);
     } else if (first == STX) {
         w->shape = 2;
         end = walk_plain(w);
-    } else if (first == DLE && w->table && w->length > 1 && w->line[1] == STX) {
+    } else if (first == DLE && w->table && start + 1 < w->length && w->line[start + 1] == STX) {
         w->shape = 4;
-        w->place = 2;
+        w->place = start + 2;
         end = walk_clear(w);
     } else {
         return NO_START;

@@ -79,15 +79,18 @@ impl<C: Check> Walk<'_, C> {
     }
 
     fn block(&mut self) -> Result<(Shape, u8), Refusal> {
+        while self.peek(0) == Some(SYN) {
+            self.place += 1;
+        }
         let clear_start = !C::SEVEN && self.peek(1) == Some(STX);
         let start = self.peek(0);
         let header = start == Some(SOH);
-        self.place = 1;
+        self.place += 1;
         let (text, end_sign) = match start {
             Some(SOH) => self.header()?,
             Some(STX) => self.plain()?,
             Some(DLE) if clear_start => {
-                self.place = 2;
+                self.place += 1;
                 self.clear()?
             }
             _ => return Err(Refusal::plain(13)),

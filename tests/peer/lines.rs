@@ -120,12 +120,11 @@ fn pieces(parts: &Parts) -> Vec<Piece> {
     let start: &[u8] = if clear { &[DLE, STX] } else { &[STX] };
     let mut pieces: Vec<Piece> = Vec::new();
     if parts.shape.header {
-        pieces.push((vec![SOH], &[]));
+        pieces.push((vec![SOH], &[SYN]));
         pieces.extend(parts.header.iter().map(|c| (vec![*c], &[SYN][..])));
     }
     if parts.shape.text != Text::Absent {
-        let before: &[u8] = if parts.shape.header { &[SYN] } else { &[] };
-        pieces.push((start.to_vec(), before));
+        pieces.push((start.to_vec(), &[SYN]));
     }
     let fill: &[u8] = if clear { &[DLE, SYN] } else { &[SYN] };
     for byte in &parts.text {

@@ -5,3 +5,4 @@ pub mod NoSign
 pub mod OneToOne
 pub mod Sums
 pub mod Passed
+pub mod Start

@@ -1,7 +1,7 @@
 -- The seven signs (document 01, part 1; 003 calls them НЗ, НТ, КТ, АР1, СИН, КБ, РИ1). No other definition names their values.
 -- Assumes nothing.
 use Prim.Native.Nat.{ℕ, _<_}
-use mathlib.Core.Bool.{cond}
+use mathlib.Core.Bool.{Bool, true, false, cond}
 use lib.Bits.{bitXor}
 use lib.Dec.{eqb}
 use Rattle.block.specs.declared.EndSign.{EndSign}
@@ -41,6 +41,26 @@ signOf b =
     (cond (eqb b SYN) syn
     (cond (eqb b ETB) etb
     (cond (eqb b US) us other))))))
+
+abbrev pub isSyn : Sign → Bool
+isSyn soh = false
+isSyn stx = false
+isSyn etx = false
+isSyn dle = false
+isSyn syn = true
+isSyn etb = false
+isSyn us = false
+isSyn other = false
+
+abbrev pub isDle : Sign → Bool
+isDle soh = false
+isDle stx = false
+isDle etx = false
+isDle dle = true
+isDle syn = false
+isDle etb = false
+isDle us = false
+isDle other = false
 
 -- a byte that differs from every sign, as code sees it
 pub record OffSigns (c : ℕ) : Type 0 where

@@ -14,13 +14,13 @@ use Rattle.block.specs.declared.Judged.the-variants.{Is, Ends, NoStart, 
 use Rattle.block.specs.Signs.{Sign, soh, stx, etx, dle, syn, etb, us, other, signOf}
 use Rattle.block.specs.Characters.{character}
 
--- the start, left out: SOH, STX or, in methods 3 and 4, DLE STX
+-- the start, left out: SOH, STX or, in methods 3 and 4, DLE STX. SYN ahead of it is left out too (document 02, card 1)
 abbrev pub inStart : Bool → Sign → Judged
 inStart seven soh = Is LeftOut Header
 inStart seven stx = Is LeftOut Text
 inStart seven etx = NoStart
 inStart seven dle = cond seven NoStart (Is LeftOut StartDle)
-inStart seven syn = NoStart
+inStart seven syn = Is LeftOut Start
 inStart seven etb = NoStart
 inStart seven us = NoStart
 inStart seven other = NoStart

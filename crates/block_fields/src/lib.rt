@@ -43,7 +43,7 @@ fn judge_start(seven: bool, c: u8) -> Judged
         SOH => Judged::Is(Mark::LeftOut, Field::Header),
         STX => Judged::Is(Mark::LeftOut, Field::Text),
         DLE => dle_in_start(seven),
-        SYN => Judged::NoStart,
+        SYN => Judged::Is(Mark::LeftOut, Field::Start),
         ETX => Judged::NoStart,
         ETB => Judged::NoStart,
         US => Judged::NoStart,

@@ -1,5 +1,5 @@
 -- The framing that the walk hands on finds header, text and counted bytes as the marks say. Assumes nothing.
-use mathlib.Core.Path.{_≡_, refl, sym, ap, _∙_}
+use mathlib.Core.Path.{_≡_, refl, sym, ap, subst, _∙_}
 use Prim.Native.Nat.{ℕ, _+_, _-_, _≤_}
 use native.Mathlib.Omega.{arith}
 use mathlib.Core.Bool.{Bool, true, false, cond, not}
@@ -23,10 +23,10 @@ use Rattle.block.specs.Marks.{isHeader, isText, sift, counted, hasInner, shapeO
 use Rattle.block.specs.Write.{isClear}
 use Rattle.block_framing.specs.declared.Tally.{Tally}
 use Rattle.block_framing.specs.declared.Segments.{Segments}
-use Rattle.block_framing.specs.Framings.{noTally, addMark, tallied, segments, framingAt}
+use Rattle.block_framing.specs.Framings.{noTally, addMark, tallied, startOf, segments, framingAt}
 use Rattle.block_framing.specs.Framings.{keptBytes, headerIn, textIn, countedIn, Segmented}
 use Rattle.block_framing.proofs.TextWalk.{Part}
-use Rattle.block_framing.proofs.HeaderWalk.{not-zero, inner-kept, Kind, header-alone, header-plain, header-clear, Headed, Line, plain, clear, headed, line-of}
+use Rattle.block_framing.proofs.HeaderWalk.{not-zero, inner-kept, Kind, header-alone, header-plain, header-clear, Headed, Line, plain, clear, headed, filled, line-of}
 
 -- ---- the framing over the segments
 
@@ -35,9 +35,9 @@ slice-at : (a b c : List ℕ) (f t : ℕ) → length a ≡ f → length a + leng
 slice-at a b c f t p q =
     ap (slice f t) (sym (append-assoc a b c)) ∙ ap (drop f) (take-at (a ++ b) c t (length-append a b ∙ q)) ∙ drop-at a b f p
 
--- a line taken apart as a framing f says: start, header, inner start, text, the last DLE of clear text, end sign, and what stands
--- after it
-record Split (seven : Bool) (line : List ℕ) (ks : List Mark) (f : Segments) : Type 0 where
+-- a line behind `at` SYN taken apart as a framing f says: start, header, inner start, text, the last DLE of clear text, end sign,
+-- and what stands after it
+record Split (seven : Bool) (at : ℕ) (line : List ℕ) (ks : List Mark) (f : Segments) : Type 0 where
   front : List ℕ
   hs : List ℕ
   is : List ℕ
@@ -46,29 +46,29 @@ record Split (seven : Bool) (line : List ℕ) (ks : List Mark) (f : Segments) : 
   stop : ℕ
   rest : List ℕ
   split : line ≡ front ++ (hs ++ (is ++ (ts ++ (lead ++ stop ∷ rest))))
-  head : f .head ≡ length front
-  inner : f .inner ≡ length front + length hs
-  body : f .body ≡ length front + length hs + length is
-  tail : f .tail ≡ length front + length hs + length is + length ts
-  after : f .after ≡ length front + length hs + length is + length ts + length lead + 1
+  head : f .head ≡ at + length front
+  inner : f .inner ≡ at + length front + length hs
+  body : f .body ≡ at + length front + length hs + length is
+  tail : f .tail ≡ at + length front + length hs + length is + length ts
+  after : f .after ≡ at + length front + length hs + length is + length ts + length lead + 1
   headers : sift isHeader ks line ≡ keptBytes false seven false hs
   texts : sift isText ks line ≡ keptBytes (isClear (f .shape)) seven false ts
   counts : counted ks line ≡ keptBytes false seven false hs ++ (is ++ (keptBytes (isClear (f .shape)) seven false ts ++ stop ∷ []))
 
-module _ (seven : Bool) (line : List ℕ) (ks : List Mark) (f : Segments) (p : Split seven line ks f) where
+module _ (seven : Bool) (line : List ℕ) (ks : List Mark) (f : Segments) (p : Split seven 0 line ks f) where
   split-length : length line ≡ f .after + length (p .rest)
   split-length = ap length (p .split) ∙ simp length-append (omega (arith, p .after))
 
   split-header : slice (f .head) (f .inner) line ≡ p .hs
   split-header =
       ap (slice (f .head) (f .inner)) (p .split)
-      ∙ slice-at (p .front) (p .hs) _ (f .head) (f .inner) (sym (p .head)) (sym (p .inner))
+      ∙ slice-at (p .front) (p .hs) _ (f .head) (f .inner) (omega (arith, p .head)) (omega (arith, p .inner))
 
   split-inner : slice (f .inner) (f .body) line ≡ p .is
   split-inner =
       let before : List ℕ = p .front ++ p .hs in
       let split : line ≡ before ++ (p .is ++ (p .ts ++ (p .lead ++ p .stop ∷ p .rest))) = simp append-assoc (p .split) in
-      let size : length before ≡ f .inner = simp length-append (sym (p .inner)) in
+      let size : length before ≡ f .inner = simp length-append (omega (arith, p .inner)) in
       ap (slice (f .inner) (f .body)) split ∙ slice-at before (p .is) _ (f .inner) (f .body) size (omega (arith, p .inner, p .body))
 
   split-text : slice (f .body) (f .tail) line ≡ p .ts
@@ -104,10 +104,10 @@ module _ (seven : Bool) (line : List ℕ) (ks : List Mark) (f : Segments) (p : S
 
 -- ---- the framing of each line
 
-plain-split : (seven : Bool) (b : ℕ) (l : List ℕ) (ks : List Mark) (e : EndSign) (t : Tally) → Part false seven false l ks
-    → Split seven (b ∷ l) (LeftOut ∷ ks) (segments shape.Text e t (length (LeftOut ∷ ks)) 1 1 1 (length (LeftOut ∷ ks) - 1))
+plain-split : (seven : Bool) (at b : ℕ) (l : List ℕ) (ks : List Mark) (e : EndSign) (t : Tally) → Part false seven false l ks
+    → {size : ℕ} → size ≡ at + length (LeftOut ∷ ks) → Split seven at (b ∷ l) (LeftOut ∷ ks) (segments shape.Text e t size (at + 1) (at + 1) (at + 1) (size - 1))
 unfolding keptBytes
-plain-split seven b l ks e t p =
+plain-split seven at b l ks e t p h =
     record {
       front = b ∷ [];
       hs = [];
@@ -117,9 +117,9 @@ plain-split seven b l ks e t p =
       stop = p .stop;
       rest = p .rest;
       split = ap (λ z. b ∷ z) (p .split);
-      head = refl;
-      inner = refl;
-      body = refl;
+      head = omega arith;
+      inner = omega arith;
+      body = omega arith;
       tail = omega arith;
       after = omega arith;
       headers = p .headers;
@@ -127,11 +127,11 @@ plain-split seven b l ks e t p =
       counts = p .counts;
     }
 
-clear-split : (seven : Bool) (b c : ℕ) (l : List ℕ) (ks : List Mark) (e : EndSign) (t : Tally) → Part true seven false l ks
-    → Split seven (b ∷ c ∷ l) (LeftOut ∷ LeftOut ∷ ks)
-    (segments shape.ClearText e t (length (LeftOut ∷ LeftOut ∷ ks)) 2 2 2 (length (LeftOut ∷ LeftOut ∷ ks) - 2))
+clear-split : (seven : Bool) (at b c : ℕ) (l : List ℕ) (ks : List Mark) (e : EndSign) (t : Tally) → Part true seven false l ks
+    → {size : ℕ} → size ≡ at + length (LeftOut ∷ LeftOut ∷ ks)
+    → Split seven at (b ∷ c ∷ l) (LeftOut ∷ LeftOut ∷ ks) (segments shape.ClearText e t size (at + 2) (at + 2) (at + 2) (size - 2))
 unfolding keptBytes
-clear-split seven b c l ks e t p =
+clear-split seven at b c l ks e t p h =
     record {
       front = b ∷ c ∷ [];
       hs = [];
@@ -141,9 +141,9 @@ clear-split seven b c l ks e t p =
       stop = p .stop;
       rest = p .rest;
       split = ap (λ z. b ∷ c ∷ z) (p .split);
-      head = refl;
-      inner = refl;
-      body = refl;
+      head = omega arith;
+      inner = omega arith;
+      body = omega arith;
       tail = omega arith;
       after = omega arith;
       headers = p .headers;
@@ -151,18 +151,19 @@ clear-split seven b c l ks e t p =
       counts = p .counts;
     }
 
--- the places of a line with a header of `n` bytes, an inner start of `wide` bytes and `size` bytes up to and with its end sign
-record Placed (isClearText : Bool) (wide n size : ℕ) (f : Segments) : Type 0 where
-  head : f .head ≡ 1
-  inner : f .inner ≡ 1 + n
-  body : f .body ≡ 1 + n + wide
+-- the places of a line behind `at` SYN with a header of `n` bytes, an inner start of `wide` bytes and `size` bytes up to and with
+-- its end sign, SYN and all
+record Placed (isClearText : Bool) (at wide n size : ℕ) (f : Segments) : Type 0 where
+  head : f .head ≡ at + 1
+  inner : f .inner ≡ at + 1 + n
+  body : f .body ≡ at + 1 + n + wide
   tail : f .tail ≡ size - (1 + cond isClearText 1 0)
   after : f .after ≡ size
   clear : isClear (f .shape) ≡ isClearText
 
-headed-split : (seven : Bool) (f : Field) (b : ℕ) (l : List ℕ) (ks : List Mark) (p : Headed seven f l ks) (g : Segments)
-    → Placed (p .clear) (p .wide) (length (p .head)) (length (LeftOut ∷ ks)) g → Split seven (b ∷ l) (LeftOut ∷ ks) g
-headed-split seven f b l ks p g h =
+headed-split : (seven : Bool) (f : Field) (at b : ℕ) (l : List ℕ) (ks : List Mark) (p : Headed seven f l ks) (g : Segments)
+    → {size : ℕ} → size ≡ at + length (LeftOut ∷ ks) → Placed (p .clear) at (p .wide) (length (p .head)) size g → Split seven at (b ∷ l) (LeftOut ∷ ks) g
+headed-split seven f at b l ks p g z h =
     record {
       front = b ∷ [];
       hs = p .head;
@@ -172,8 +173,8 @@ headed-split seven f b l ks p g h =
       stop = p .part .stop;
       rest = p .part .rest;
       split = ap (λ z. b ∷ z) (p .split ∙ ap (λ z. p .head ++ (p .inner ++ z)) (p .part .split));
-      head = h .head;
-      inner = h .inner;
+      head = omega (arith, h .head);
+      inner = omega (arith, h .inner);
       body = omega (arith, h .body, p .inners);
       tail = omega (arith, h .tail, p .inners, p .size, p .part .size, p .part .leads);
       after = omega (arith, h .after, p .inners, p .size, p .part .size, p .part .leads);
@@ -182,49 +183,84 @@ headed-split seven f b l ks p g h =
       counts = rw (h .clear) (p .counts ∙ ap (λ z. keptBytes false seven false (p .head) ++ (p .inner ++ z)) (p .part .counts));
     }
 
-kind-placed : (f : Field) (c : Bool) (wide n size : ℕ) (e : EndSign) (t : Tally) → Kind f c wide
-    → t .inner ≡ cond (eqb wide 0) 0 (1 + n) → (wide ≡ 0 → size ≡ 1 + n + 1) → Placed c wide n size (framingAt f e t size)
+kind-placed : (f : Field) (c : Bool) (at wide n size : ℕ) (e : EndSign) (t : Tally) → Kind f c wide
+    → t .inner ≡ cond (eqb wide 0) 0 (at + 1 + n) → (wide ≡ 0 → size ≡ at + 1 + n + 1) → Placed c at wide n size (framingAt at f e t size)
 unfolding framingAt
-kind-placed f c wide n size e t header-alone i a =
-    let m : size ≡ 1 + n + 1 = a refl in
+kind-placed f c at wide n size e t header-alone i a =
+    let m : size ≡ at + 1 + n + 1 = a refl in
     record { head = refl; inner = omega arith; body = omega arith; tail = omega arith; after = refl; clear = refl }
-kind-placed f c wide n size e t header-plain i a =
-    rw (not-zero (t .inner) n i)
+kind-placed f c at wide n size e t header-plain i a =
+    rw (not-zero (t .inner) (at + n) (omega (arith, i)))
     (record { head = refl; inner = i; body = omega arith; tail = refl; after = refl; clear = refl })
-kind-placed f c wide n size e t header-clear i a =
-    rw (not-zero (t .inner) n i)
+kind-placed f c at wide n size e t header-clear i a =
+    rw (not-zero (t .inner) (at + n) (omega (arith, i)))
     (record { head = refl; inner = i; body = omega arith; tail = refl; after = refl; clear = refl })
 
-plain-framing : (e : EndSign) (t : Tally) (n : ℕ) → t .inner ≡ 0
-    → framingAt Text e t n ≡ segments shape.Text e t n 1 1 1 (n - 1)
+plain-framing : (at : ℕ) (e : EndSign) (t : Tally) (n : ℕ) → t .inner ≡ 0
+    → framingAt at Text e t n ≡ segments shape.Text e t n (at + 1) (at + 1) (at + 1) (n - 1)
 unfolding framingAt
-plain-framing e t n h = rw h
+plain-framing at e t n h = rw h
 
-clear-framing : (e : EndSign) (t : Tally) (n : ℕ) → t .inner ≡ 0
-    → framingAt ClearDle e t n ≡ segments shape.ClearText e t n 2 2 2 (n - 2)
+clear-framing : (at : ℕ) (e : EndSign) (t : Tally) (n : ℕ) → t .inner ≡ 0
+    → framingAt at ClearDle e t n ≡ segments shape.ClearText e t n (at + 2) (at + 2) (at + 2) (n - 2)
 unfolding framingAt
-clear-framing e t n h = rw h
+clear-framing at e t n h = rw h
 
-line-split : (seven : Bool) (f : Field) (line : List ℕ) (ks : List Mark) (e : EndSign) → Line seven f line ks
-    → Split seven line ks (framingAt f e (tallied noTally 0 ks) (length ks))
-line-split seven f line ks e (plain b l ms p) =
-    let t : Tally = tallied noTally 1 ms in
-    rw (plain-framing e t (length (LeftOut ∷ ms)) (inner-kept noTally 1 ms (p .inner))) (plain-split seven b l ms e t p)
-line-split seven f line ks e (clear b c l ms p) =
-    let t : Tally = tallied noTally 2 ms in
-    rw (clear-framing e t (length (LeftOut ∷ LeftOut ∷ ms)) (inner-kept noTally 2 ms (p .inner))) (clear-split seven b c l ms e t p)
-line-split seven f line ks e (headed g b l ms p) =
-    let t : Tally = tallied noTally 1 ms in
-    let n : ℕ = length (LeftOut ∷ ms) in
-    headed-split seven g b l ms p (framingAt g e t n)
-    (kind-placed g (p .clear) (p .wide) (length (p .head)) n e t (p .kind) (p .place noTally 1 refl (omega arith))
-    (λ z. omega (arith, p .size, p .alone z)))
+-- one SYN more ahead of the line
+filled-split : (seven : Bool) (at b : ℕ) (l : List ℕ) (ks : List Mark) (g : Segments) → Split seven (at + 1) l ks g
+    → Split seven at (b ∷ l) (LeftOut ∷ ks) g
+filled-split seven at b l ks g p =
+    record {
+      front = b ∷ p .front;
+      hs = p .hs;
+      is = p .is;
+      ts = p .ts;
+      lead = p .lead;
+      stop = p .stop;
+      rest = p .rest;
+      split = ap (λ z. b ∷ z) (p .split);
+      head = omega (arith, p .head);
+      inner = omega (arith, p .inner);
+      body = omega (arith, p .body);
+      tail = omega (arith, p .tail);
+      after = omega (arith, p .after);
+      headers = p .headers;
+      texts = p .texts;
+      counts = p .counts;
+    }
+
+-- of a line behind `at` SYN, with n of its own, so that the start stands at `start` and `size` bytes go up to and with the end sign
+line-split : (seven : Bool) (f : Field) (n at : ℕ) (line : List ℕ) (ks : List Mark) (e : EndSign) → Line seven f n line ks → (start size : ℕ)
+    → start ≡ at + n → size ≡ at + length ks → Split seven at line ks (framingAt start f e (tallied noTally at ks) size)
+line-split seven f n at line ks e (plain b l ms p) start size h k =
+    let t : Tally = tallied noTally (at + 1) ms in
+    let i : start ≡ at = omega (arith, h) in
+    subst (Split seven at (b ∷ l) (LeftOut ∷ ms))
+    (sym (ap (λ z. framingAt z Text e t size) i ∙ plain-framing at e t size (inner-kept noTally (at + 1) ms (p .inner))))
+    (plain-split seven at b l ms e t p k)
+line-split seven f n at line ks e (clear b c l ms p) start size h k =
+    let t : Tally = tallied noTally (at + 1 + 1) ms in
+    let i : start ≡ at = omega (arith, h) in
+    subst (Split seven at (b ∷ c ∷ l) (LeftOut ∷ LeftOut ∷ ms))
+    (sym (ap (λ z. framingAt z ClearDle e t size) i ∙ clear-framing at e t size (inner-kept noTally (at + 1 + 1) ms (p .inner))))
+    (clear-split seven at b c l ms e t p k)
+line-split seven f n at line ks e (headed g b l ms p) start size h k =
+    let t : Tally = tallied noTally (at + 1) ms in
+    let i : start ≡ at = omega (arith, h) in
+    subst (Split seven at (b ∷ l) (LeftOut ∷ ms)) (sym (ap (λ z. framingAt z g e t size) i))
+    (headed-split seven g at b l ms p (framingAt at g e t size) k
+    (kind-placed g (p .clear) at (p .wide) (length (p .head)) size e t (p .kind) (p .place noTally (at + 1) refl (omega arith))
+    (λ z. omega (arith, p .size, p .alone z))))
+line-split seven f n at line ks e (filled g m b l ms p) start size h k =
+    filled-split seven at b l ms _ (line-split seven g m (at + 1) l ms e p start size (omega (arith, h)) (omega (arith, k)))
 
 -- a walk that ends at an end sign has a framing that finds what the marks say
 pub segmented : (seven : Bool) (line : List ℕ) (ks : List Mark) (f : Field) (e : EndSign)
     → walk seven line 0 Start ≡ record { marks = ks; stop = ended f e }
-    → Segmented seven line ks (framingAt f e (tallied noTally 0 ks) (length ks))
-segmented seven line ks f e h = split-segmented seven line ks _ (line-split seven f line ks e (line-of seven line ks f e h))
+    → Segmented seven line ks (framingAt (startOf seven line) f e (tallied noTally 0 ks) (length ks))
+segmented seven line ks f e h =
+    split-segmented seven line ks _
+    (line-split seven f (startOf seven line) 0 line ks e (line-of seven line ks f e h) (startOf seven line) (length ks) (omega arith) (omega arith))
 
 -- ---- the shape
 
@@ -234,33 +270,35 @@ zero-by true n m has p q = rw (p, q)
 zero-by false n m has p q = not-zero n m p ∙ ap not (sym q)
 
 -- the place of the inner start is 0 just where there was none
-inner-zero : (seven : Bool) (f : Field) (line : List ℕ) (ks : List Mark) → Line seven f line ks
-    → eqb (tallied noTally 0 ks .inner) 0 ≡ not (hasInner ks)
-inner-zero seven f line ks (plain b l ms p) = rw (inner-kept noTally 1 ms (p .inner), p .inner)
-inner-zero seven f line ks (clear b c l ms p) = rw (inner-kept noTally 2 ms (p .inner), p .inner)
-inner-zero seven f line ks (headed g b l ms p) =
-    zero-by (eqb (p .wide) 0) (tallied noTally 1 ms .inner) (length (p .head)) (hasInner ms)
-    (p .place noTally 1 refl (omega arith)) (p .has)
+inner-zero : (seven : Bool) (f : Field) (n at : ℕ) (line : List ℕ) (ks : List Mark) → Line seven f n line ks
+    → eqb (tallied noTally at ks .inner) 0 ≡ not (hasInner ks)
+inner-zero seven f n at line ks (plain b l ms p) = rw (inner-kept noTally (at + 1) ms (p .inner), p .inner)
+inner-zero seven f n at line ks (clear b c l ms p) = rw (inner-kept noTally (at + 1 + 1) ms (p .inner), p .inner)
+inner-zero seven f n at line ks (headed g b l ms p) =
+    zero-by (eqb (p .wide) 0) (tallied noTally (at + 1) ms .inner) (at + length (p .head)) (hasInner ms)
+    (p .place noTally (at + 1) refl (omega arith) ∙ ap (cond (eqb (p .wide) 0) 0) (omega arith)) (p .has)
+inner-zero seven f n at line ks (filled g m b l ms p) = inner-zero seven g m (at + 1) l ms p
 
-shape-by : (f : Field) (e : EndSign) (t : Tally) (n : ℕ) (has : Bool) → eqb (t .inner) 0 ≡ not has
-    → framingAt f e t n .shape ≡ shapeOf has f
+shape-by : (start : ℕ) (f : Field) (e : EndSign) (t : Tally) (n : ℕ) (has : Bool) → eqb (t .inner) 0 ≡ not has
+    → framingAt start f e t n .shape ≡ shapeOf has f
 unfolding framingAt
-shape-by Start e t n has h = refl
-shape-by StartDle e t n has h = refl
-shape-by Header e t n has h = refl
-shape-by HeaderDle e t n has h = refl
-shape-by Clear e t n has h = refl
-shape-by Text e t n true h = rw h
-shape-by Text e t n false h = rw h
-shape-by ClearDle e t n true h = rw h
-shape-by ClearDle e t n false h = rw h
+shape-by start Start e t n has h = refl
+shape-by start StartDle e t n has h = refl
+shape-by start Header e t n has h = refl
+shape-by start HeaderDle e t n has h = refl
+shape-by start Clear e t n has h = refl
+shape-by start Text e t n true h = rw h
+shape-by start Text e t n false h = rw h
+shape-by start ClearDle e t n true h = rw h
+shape-by start ClearDle e t n false h = rw h
 
 -- the framing has the shape that the marks say
 pub framing-shape : (seven : Bool) (line : List ℕ) (ks : List Mark) (f : Field) (e : EndSign)
     → walk seven line 0 Start ≡ record { marks = ks; stop = ended f e }
-    → framingAt f e (tallied noTally 0 ks) (length ks) .shape ≡ shapeOf (hasInner ks) f
+    → framingAt (startOf seven line) f e (tallied noTally 0 ks) (length ks) .shape ≡ shapeOf (hasInner ks) f
 framing-shape seven line ks f e h =
-    shape-by f e (tallied noTally 0 ks) (length ks) (hasInner ks) (inner-zero seven f line ks (line-of seven line ks f e h))
+    shape-by (startOf seven line) f e (tallied noTally 0 ks) (length ks) (hasInner ks)
+    (inner-zero seven f (startOf seven line) 0 line ks (line-of seven line ks f e h))
 
 -- ---- the tally
 

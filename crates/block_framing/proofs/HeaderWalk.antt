@@ -13,14 +13,13 @@ use Rattle.block.specs.declared.Mark.{Mark}
 use Rattle.block.specs.declared.Mark.the-variants.{LeftOut, HeaderByte, TextByte, InnerStart, End}
 use Rattle.block.specs.declared.Field.{Field}
 use Rattle.block.specs.declared.Field.the-variants.{Start, StartDle, Header, HeaderDle, Text, Clear, ClearDle}
-use Rattle.block.specs.Signs.{Sign, soh, stx, etx, dle, syn, etb, us, other, signOf}
+use Rattle.block.specs.Signs.{Sign, soh, stx, etx, dle, syn, etb, us, other, signOf, isSyn}
 use Rattle.block.specs.Characters.{character}
 use Rattle.block.specs.Walk.{inStart, inStartDle, inHeader, inHeaderDle}
 use Rattle.block.specs.Walk.{ended, Walked, onward, walk}
 use Rattle.block.specs.Marks.{isHeader, isText, sift, counted, hasInner}
 use Rattle.block_framing.specs.declared.Tally.{Tally}
-use Rattle.block_framing.specs.Framings.{firstOf, tallied}
-use Rattle.block_framing.specs.Framings.{keptBytes}
+use Rattle.block_framing.specs.Framings.{firstOf, tallied, startOf, keptBytes}
 use Rattle.block_framing.proofs.KeptBySign.{kept-plain}
 use Rattle.block_framing.proofs.TextWalk.{Part, part-end, no-end, Closed, text-walk, clear-walk}
 
@@ -239,16 +238,17 @@ header-walk seven (b ∷ rest) at f e h =
 
 -- ---- the walk over a line
 
--- a line walked to an end sign in field f: text or clear text behind its start, or a header behind SOH
-pub data Line (seven : Bool) : Field → List ℕ → List Mark → Type 0 where
-  plain : (b : ℕ) (l : List ℕ) (ks : List Mark) → Part false seven false l ks → Line seven Text (b ∷ l) (LeftOut ∷ ks)
+-- a line walked to an end sign in field f: text or clear text behind its start, or a header behind SOH; and as many SYN ahead of it
+pub data Line (seven : Bool) : Field → ℕ → List ℕ → List Mark → Type 0 where
+  plain : (b : ℕ) (l : List ℕ) (ks : List Mark) → Part false seven false l ks → Line seven Text 0 (b ∷ l) (LeftOut ∷ ks)
   clear : (b c : ℕ) (l : List ℕ) (ks : List Mark) → Part true seven false l ks
-      → Line seven ClearDle (b ∷ c ∷ l) (LeftOut ∷ LeftOut ∷ ks)
-  headed : (f : Field) (b : ℕ) (l : List ℕ) (ks : List Mark) → Headed seven f l ks → Line seven f (b ∷ l) (LeftOut ∷ ks)
+      → Line seven ClearDle 0 (b ∷ c ∷ l) (LeftOut ∷ LeftOut ∷ ks)
+  headed : (f : Field) (b : ℕ) (l : List ℕ) (ks : List Mark) → Headed seven f l ks → Line seven f 0 (b ∷ l) (LeftOut ∷ ks)
+  filled : (f : Field) (n b : ℕ) (l : List ℕ) (ks : List Mark) → Line seven f n l ks → Line seven f (n + 1) (b ∷ l) (LeftOut ∷ ks)
 
 module _ (b c : ℕ) (rest : List ℕ) (at : ℕ) (f : Field) (e : EndSign) where
   start-dle-step : (s : Sign) → onward (walk false rest (at + 1)) StartDle at (inStartDle s) .stop ≡ ended f e
-      → Line false f (b ∷ c ∷ rest) (LeftOut ∷ onward (walk false rest (at + 1)) StartDle at (inStartDle s) .marks)
+      → Line false f 0 (b ∷ c ∷ rest) (LeftOut ∷ onward (walk false rest (at + 1)) StartDle at (inStartDle s) .marks)
   start-dle-step soh h = absurd (no-end h)
   start-dle-step stx h =
       let w : Closed true false ClearDle f rest (walk false rest (at + 1) Clear) = clear-walk rest (at + 1) f e h in
@@ -261,31 +261,33 @@ module _ (b c : ℕ) (rest : List ℕ) (at : ℕ) (f : Field) (e : EndSign) wher
   start-dle-step other h = absurd (no-end h)
 
 start-dle : (b : ℕ) (l : List ℕ) (at : ℕ) (f : Field) (e : EndSign) → walk false l at StartDle .stop ≡ ended f e
-    → Line false f (b ∷ l) (LeftOut ∷ walk false l at StartDle .marks)
+    → Line false f 0 (b ∷ l) (LeftOut ∷ walk false l at StartDle .marks)
 start-dle b [] at f e h = absurd (no-end h)
 start-dle b (c ∷ rest) at f e h = start-dle-step b c rest at f e (signOf (character false c)) h
 
-start-step : (seven : Bool) (b : ℕ) (rest : List ℕ) (at : ℕ) (f : Field) (e : EndSign) (s : Sign)
-    → onward (walk seven rest (at + 1)) Start at (inStart seven s) .stop ≡ ended f e
-    → Line seven f (b ∷ rest) (onward (walk seven rest (at + 1)) Start at (inStart seven s) .marks)
-start-step seven b rest at f e soh h = headed f b rest _ (header-walk seven rest (at + 1) f e h)
-start-step seven b rest at f e stx h =
+start-step : (seven : Bool) (b : ℕ) (rest : List ℕ) (at : ℕ) (f : Field) (e : EndSign)
+    → (walk seven rest (at + 1) Start .stop ≡ ended f e → Line seven f (startOf seven rest) rest (walk seven rest (at + 1) Start .marks))
+    → (s : Sign) → onward (walk seven rest (at + 1)) Start at (inStart seven s) .stop ≡ ended f e
+    → Line seven f (cond (isSyn s) (startOf seven rest + 1) 0) (b ∷ rest) (onward (walk seven rest (at + 1)) Start at (inStart seven s) .marks)
+start-step seven b rest at f e ih soh h = headed f b rest _ (header-walk seven rest (at + 1) f e h)
+start-step seven b rest at f e ih stx h =
     let w : Closed false seven Text f rest (walk seven rest (at + 1) Text) = text-walk seven rest (at + 1) f e h in
     rw (w .field) (plain b rest _ (w .part))
-start-step seven b rest at f e etx h = absurd (no-end h)
-start-step true b rest at f e dle h = absurd (no-end h)
-start-step false b rest at f e dle h = start-dle b rest (at + 1) f e h
-start-step seven b rest at f e syn h = absurd (no-end h)
-start-step seven b rest at f e etb h = absurd (no-end h)
-start-step seven b rest at f e us h = absurd (no-end h)
-start-step seven b rest at f e other h = absurd (no-end h)
+start-step seven b rest at f e ih etx h = absurd (no-end h)
+start-step true b rest at f e ih dle h = absurd (no-end h)
+start-step false b rest at f e ih dle h = start-dle b rest (at + 1) f e h
+start-step seven b rest at f e ih syn h = filled f (startOf seven rest) b rest _ (ih h)
+start-step seven b rest at f e ih etb h = absurd (no-end h)
+start-step seven b rest at f e ih us h = absurd (no-end h)
+start-step seven b rest at f e ih other h = absurd (no-end h)
 
 line-walk : (seven : Bool) (l : List ℕ) (at : ℕ) (f : Field) (e : EndSign) → walk seven l at Start .stop ≡ ended f e
-    → Line seven f l (walk seven l at Start .marks)
+    → Line seven f (startOf seven l) l (walk seven l at Start .marks)
 line-walk seven [] at f e h = absurd (no-end h)
-line-walk seven (b ∷ rest) at f e h = start-step seven b rest at f e (signOf (character seven b)) h
+line-walk seven (b ∷ rest) at f e h =
+    start-step seven b rest at f e (line-walk seven rest (at + 1) f e) (signOf (character seven b)) h
 
 pub line-of : (seven : Bool) (line : List ℕ) (ks : List Mark) (f : Field) (e : EndSign)
-    → walk seven line 0 Start ≡ record { marks = ks; stop = ended f e } → Line seven f line ks
+    → walk seven line 0 Start ≡ record { marks = ks; stop = ended f e } → Line seven f (startOf seven line) line ks
 line-of seven line ks f e h =
-    subst (λ k. Line seven f line k) (ap (λ w. w .marks) h) (line-walk seven line 0 f e (ap (λ w. w .stop) h))
+    subst (λ k. Line seven f (startOf seven line) line k) (ap (λ w. w .marks) h) (line-walk seven line 0 f e (ap (λ w. w .stop) h))

@@ -6,31 +6,9 @@ use mathlib.Core.List.{List, _∷_}
 use lib.Dec.{eqb}
 use borrow.Author.Tests.{eqb-true}
 use Rattle.bits.specs.Differences.{consIf}
-use Rattle.block.specs.Signs.{SOH, STX, ETX, DLE, SYN, ETB, US, Sign, soh, stx, etx, dle, syn, etb, us, other, signOf}
+use Rattle.block.specs.Signs.{SOH, STX, ETX, DLE, SYN, ETB, US, Sign, soh, stx, etx, dle, syn, etb, us, other, signOf, isSyn, isDle}
 use Rattle.block.specs.Characters.{character}
 use Rattle.block_framing.specs.Framings.{isKept, nextBehind, keptBytes}
-
--- ---- the tests for SYN and DLE, by the sign
-
-abbrev pub isSyn : Sign → Bool
-isSyn soh = false
-isSyn stx = false
-isSyn etx = false
-isSyn dle = false
-isSyn syn = true
-isSyn etb = false
-isSyn us = false
-isSyn other = false
-
-abbrev pub isDle : Sign → Bool
-isDle soh = false
-isDle stx = false
-isDle etx = false
-isDle dle = true
-isDle syn = false
-isDle etb = false
-isDle us = false
-isDle other = false
 
 -- one `cond` of `signOf`, where the test is against v
 else-test : (is : Sign → Bool) (b v c : ℕ) (s r : Sign) → eqb c v ≡ is s → (eqb b c ≡ false → eqb b v ≡ is r)

@@ -4,5 +4,6 @@ pub mod HeaderWalk
 pub mod KeptBySign
 pub mod OneToOne
 pub mod Reading
+pub mod Starts
 pub mod TextWalk
 pub mod Turns

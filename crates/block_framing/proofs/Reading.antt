@@ -33,7 +33,7 @@ use Rattle.block_framing.specs.declared.WalkEnd.{WalkEnd}
 use Rattle.block_framing.specs.declared.WalkEnd.the-variants as code
 use Rattle.block_framing.specs.declared.Tally.{Tally}
 use Rattle.block_framing.specs.declared.Segments.{Segments}
-use Rattle.block_framing.specs.Framings.{noTally, addMark, tallied, segments, framingAt, framed, refusal, ofWalk, stopped, answerAfter, walkAnswer, framedAnswer, wrongFrom}
+use Rattle.block_framing.specs.Framings.{noTally, addMark, tallied, segments, framingAt, framed, refusal, ofWalk, stopped, answerAfter, walkAnswer, framedAnswer, startOf, wrongFrom}
 use Rattle.block_framing.proofs.FramingLaws.{tally-counts, marks-within}
 
 -- ---- a part of a slice
@@ -107,51 +107,56 @@ parities-right p (b ∷ l) at next h = go (parityRight p b) (λ k. parities-righ
     go true ih k = ih (omega arith)
     go false ih k = absurd (omega arith)
 
--- ---- 13 to 15: what the walk walkAnswer
+-- ---- 13 to 15: what the walk hands on
 
-answer-stopped : (t : Tally) (at : ℕ) (ks : List Mark) (s : Stop) → answerAfter t at ks s ≡ stopped (tallied t at ks) (at + length ks) s
-answer-stopped t at [] s = ap (λ n. stopped t n s) (sym (add-zero at))
-answer-stopped t at (k ∷ ks) s =
-    let e : at + 1 + length ks ≡ at + suc (length ks) = omega arith in
-    answer-stopped (addMark k at t) (at + 1) ks s ∙ ap (λ n. stopped (tallied (addMark k at t) (at + 1) ks) n s) e
+module _ (start : ℕ) where
+  answer-stopped : (t : Tally) (at : ℕ) (ks : List Mark) (s : Stop)
+      → answerAfter start t at ks s ≡ stopped start (tallied t at ks) (at + length ks) s
+  answer-stopped t at [] s = ap (λ n. stopped start t n s) (sym (add-zero at))
+  answer-stopped t at (k ∷ ks) s =
+      let e : at + 1 + length ks ≡ at + suc (length ks) = omega arith in
+      answer-stopped (addMark k at t) (at + 1) ks s ∙ ap (λ n. stopped start (tallied (addMark k at t) (at + 1) ks) n s) e
 
-answer-walk : (w : Walked) → walkAnswer noTally 0 w ≡ stopped (tallied noTally 0 (w .marks)) (length (w .marks)) (w .stop)
-answer-walk w = answer-stopped noTally 0 (w .marks) (w .stop) ∙ ap (λ n. stopped (tallied noTally 0 (w .marks)) n (w .stop)) (zero-add (length (w .marks)))
+  answer-walk : (w : Walked) → walkAnswer start noTally 0 w ≡ stopped start (tallied noTally 0 (w .marks)) (length (w .marks)) (w .stop)
+  answer-walk w =
+      answer-stopped noTally 0 (w .marks) (w .stop)
+      ∙ ap (λ n. stopped start (tallied noTally 0 (w .marks)) n (w .stop)) (zero-add (length (w .marks)))
 
--- a walk that walkAnswer a framing stopped at an end sign
-pub record FoundBy (w : Walked) (r : Segments) : Type 0 where
-  pub field : Field
-  pub end : EndSign
-  pub stop : w .stop ≡ ended field end
-  pub framing : r ≡ framingAt field end (tallied noTally 0 (w .marks)) (length (w .marks))
+  -- a walk that hands on a framing stopped at an end sign
+  pub record FoundBy (w : Walked) (r : Segments) : Type 0 where
+    pub field : Field
+    pub end : EndSign
+    pub stop : w .stop ≡ ended field end
+    pub framing : r ≡ framingAt start field end (tallied noTally 0 (w .marks)) (length (w .marks))
 
-pub found-by : (w : Walked) (r : Segments) → walkAnswer noTally 0 w ≡ framed r → FoundBy w r
-found-by w r e = go (w .stop) refl
-  where
-    go : (s : Stop) → w .stop ≡ s → FoundBy w r
-    go (ended f d) q =
-        let c : framed r ≡ framed (framingAt f d (tallied noTally 0 (w .marks)) (length (w .marks))) =
-        sym e ∙ answer-walk w ∙ ap (stopped (tallied noTally 0 (w .marks)) (length (w .marks))) q in
-        record { field = f; end = d; stop = q; framing = cc }
-    go (refused n v) q =
-        let c : framed r ≡ refusal n v = sym e ∙ answer-walk w ∙ ap (stopped (tallied noTally 0 (w .marks)) (length (w .marks))) q in
-        let z : _≡_ {A = ℕ} 0 1 = cc in
-        absurd (omega arith)
+  pub found-by : (w : Walked) (r : Segments) → walkAnswer start noTally 0 w ≡ framed r → FoundBy w r
+  found-by w r e = go (w .stop) refl
+    where
+      go : (s : Stop) → w .stop ≡ s → FoundBy w r
+      go (ended f d) q =
+          let c : framed r ≡ framed (framingAt start f d (tallied noTally 0 (w .marks)) (length (w .marks))) =
+          sym e ∙ answer-walk w ∙ ap (stopped start (tallied noTally 0 (w .marks)) (length (w .marks))) q in
+          record { field = f; end = d; stop = q; framing = cc }
+      go (refused n v) q =
+          let c : framed r ≡ refusal n v = sym e ∙ answer-walk w ∙ ap (stopped start (tallied noTally 0 (w .marks)) (length (w .marks))) q in
+          let z : _≡_ {A = ℕ} 0 1 = cc in
+          absurd (omega arith)
 
--- a walk that walkAnswer a refusal
-pub refused-by : (m : Method) (line : List ℕ) (w : Walked) (n v : ℕ) → walkAnswer noTally 0 w ≡ refusal n v → framedAnswer (askWalk m line w) ≡ refusal n v
-refused-by m line w n v e = go (w .stop) refl
-  where
-    go : (s : Stop) → w .stop ≡ s → framedAnswer (askEnd m line (w .marks) (w .stop)) ≡ refusal n v
-    go (ended f d) q =
-        let c : refusal n v ≡ framed (framingAt f d (tallied noTally 0 (w .marks)) (length (w .marks))) =
-        sym e ∙ answer-walk w ∙ ap (stopped (tallied noTally 0 (w .marks)) (length (w .marks))) q in
-        let z : _≡_ {A = ℕ} 0 1 = cc in
-        absurd (omega arith)
-    go (refused k u) q =
-        let c : walkAnswer noTally 0 w ≡ refusal k u =
-        answer-walk w ∙ ap (stopped (tallied noTally 0 (w .marks)) (length (w .marks))) q in
-        ap (λ s. framedAnswer (askEnd m line (w .marks) s)) q ∙ sym c ∙ e
+  -- a walk that hands on a refusal
+  pub refused-by : (m : Method) (line : List ℕ) (w : Walked) (n v : ℕ) → walkAnswer start noTally 0 w ≡ refusal n v
+      → framedAnswer (isSeven m) line (askWalk m line w) ≡ refusal n v
+  refused-by m line w n v e = go (w .stop) refl
+    where
+      go : (s : Stop) → w .stop ≡ s → framedAnswer (isSeven m) line (askEnd m line (w .marks) (w .stop)) ≡ refusal n v
+      go (ended f d) q =
+          let c : refusal n v ≡ framed (framingAt start f d (tallied noTally 0 (w .marks)) (length (w .marks))) =
+          sym e ∙ answer-walk w ∙ ap (stopped start (tallied noTally 0 (w .marks)) (length (w .marks))) q in
+          let z : _≡_ {A = ℕ} 0 1 = cc in
+          absurd (omega arith)
+      go (refused k u) q =
+          let c : walkAnswer start noTally 0 w ≡ refusal k u =
+          answer-walk w ∙ ap (stopped start (tallied noTally 0 (w .marks)) (length (w .marks))) q in
+          ap (λ s. framedAnswer (isSeven m) line (askEnd m line (w .marks) s)) q ∙ sym c ∙ e
 
 -- ---- what a framing carries over from the tally
 
@@ -169,29 +174,32 @@ carries-either : (b : Bool) {e : EndSign} {t : Tally} {after : ℕ} {x y : Segme
 carries-either true p q = p
 carries-either false p q = q
 
-pub framing-carries : (f : Field) (e : EndSign) (t : Tally) (after : ℕ) → Carries e t after (framingAt f e t after)
+pub framing-carries : (start : ℕ) (f : Field) (e : EndSign) (t : Tally) (after : ℕ) → Carries e t after (framingAt start f e t after)
 unfolding framingAt
-framing-carries Start e t after = carries-segments _ e t after _ _ _ _
-framing-carries StartDle e t after = carries-segments _ e t after _ _ _ _
-framing-carries Header e t after = carries-segments _ e t after _ _ _ _
-framing-carries HeaderDle e t after = carries-segments _ e t after _ _ _ _
-framing-carries Clear e t after = carries-segments _ e t after _ _ _ _
-framing-carries Text e t after = carries-either (eqb (t .inner) 0) (carries-segments _ e t after _ _ _ _) (carries-segments _ e t after _ _ _ _)
-framing-carries ClearDle e t after = carries-either (eqb (t .inner) 0) (carries-segments _ e t after _ _ _ _) (carries-segments _ e t after _ _ _ _)
+framing-carries start Start e t after = carries-segments _ e t after _ _ _ _
+framing-carries start StartDle e t after = carries-segments _ e t after _ _ _ _
+framing-carries start Header e t after = carries-segments _ e t after _ _ _ _
+framing-carries start HeaderDle e t after = carries-segments _ e t after _ _ _ _
+framing-carries start Clear e t after = carries-segments _ e t after _ _ _ _
+framing-carries start Text e t after = carries-either (eqb (t .inner) 0) (carries-segments _ e t after _ _ _ _) (carries-segments _ e t after _ _ _ _)
+framing-carries start ClearDle e t after = carries-either (eqb (t .inner) 0) (carries-segments _ e t after _ _ _ _) (carries-segments _ e t after _ _ _ _)
 
 -- ---- 16 and 17
 
-module _ (m : Method) (line : List ℕ) (r : Segments) (e : walkAnswer noTally 0 (walk (isSeven m) line 0 Start) ≡ framed r) where
+module _ (m : Method) (line : List ℕ) (r : Segments) (e : walkAnswer (startOf (isSeven m) line) noTally 0 (walk (isSeven m) line 0 Start) ≡ framed r) where
   abbrev w : Walked
   w = walk (isSeven m) line 0 Start
 
-  by : FoundBy w r
-  by = found-by w r e
+  abbrev start : ℕ
+  start = startOf (isSeven m) line
+
+  by : FoundBy start w r
+  by = found-by start w r e
 
   carried : Carries (by .end) (tallied noTally 0 (w .marks)) (length (w .marks)) r
   carried =
       subst (λ (x : Segments). Carries (by .end) (tallied noTally 0 (w .marks)) (length (w .marks)) x) (sym (by .framing))
-      (framing-carries (by .field) (by .end) (tallied noTally 0 (w .marks)) (length (w .marks)))
+      (framing-carries start (by .field) (by .end) (tallied noTally 0 (w .marks)) (length (w .marks)))
 
   count : r .counted ≡ length (counted (w .marks) line)
   count = carried .counts ∙ tally-counts (w .marks) line (marks-within (isSeven m) line 0 Start) .counts
@@ -210,47 +218,47 @@ module _ (m : Method) (line : List ℕ) (r : Segments) (e : walkAnswer noTally 0
   unfolding by-length by-count
   asked = ap (askEnd m line (w .marks)) (by .stop)
 
-  pub wrong-length : (length line ≡ r .after + checkLength m → ⊥) → framedAnswer (askWalk m line w) ≡ refusal 16 (r .after)
+  pub wrong-length : (length line ≡ r .after + checkLength m → ⊥) → framedAnswer (isSeven m) line (askWalk m line w) ≡ refusal 16 (r .after)
   unfolding by-length
   wrong-length h =
       let n = ne-eqb (length line) (length (w .marks) + checkLength m) (λ q. h (q ∙ ap (λ n. n + checkLength m) (sym (carried .behind)))) in
-      ap framedAnswer (asked ∙ ap by-length n) ∙ ap (refusal 16) (sym (carried .behind))
+      ap (framedAnswer (isSeven m) line) (asked ∙ ap by-length n) ∙ ap (refusal 16) (sym (carried .behind))
 
   module _ (h : length line ≡ r .after + checkLength m) where
     right-length : askWalk m line w ≡ by-count (leb (length (counted (w .marks) line)) 4096)
     unfolding by-length
     right-length = asked ∙ ap by-length (eq-eqb (length line) (length (w .marks) + checkLength m) (h ∙ ap (λ n. n + checkLength m) (carried .behind)))
 
-    pub too-many : 4096 < r .counted → framedAnswer (askWalk m line w) ≡ refusal 17 0
+    pub too-many : 4096 < r .counted → framedAnswer (isSeven m) line (askWalk m line w) ≡ refusal 17 0
     unfolding by-count
-    too-many k = ap framedAnswer (right-length ∙ ap by-count (lt-leb (length (counted (w .marks) line)) 4096 (omega (arith, count))))
+    too-many k = ap (framedAnswer (isSeven m) line) (right-length ∙ ap by-count (lt-leb (length (counted (w .marks) line)) 4096 (omega (arith, count))))
 
-    pub all-passed : r .counted ≤ 4096 → framedAnswer (askWalk m line w) ≡ framed r
+    pub all-passed : r .counted ≤ 4096 → framedAnswer (isSeven m) line (askWalk m line w) ≡ framed r
     unfolding by-count
     all-passed k =
-        ap framedAnswer (right-length ∙ ap by-count (le-leb (length (counted (w .marks) line)) 4096 (omega (arith, count)))) ∙ ap framed (sym (by .framing))
+        ap (framedAnswer (isSeven m) line) (right-length ∙ ap by-count (le-leb (length (counted (w .marks) line)) 4096 (omega (arith, count)))) ∙ ap framed (sym (by .framing))
 
 -- ---- the same of the code's walk
 
 module _ (m : Method) (line : List ℕ) {seven : Bool} {result : WalkEnd} (s : seven ≡ isSeven m)
-    (e : ofWalk result ≡ walkAnswer noTally 0 (walk seven line 0 Start)) where
-  pub answer-as : {r : Segments} → result ≡ code.Found r → walkAnswer noTally 0 (walk (isSeven m) line 0 Start) ≡ framed r
-  answer-as q = sym (e ∙ ap (λ t. walkAnswer noTally 0 (walk t line 0 Start)) s) ∙ ap ofWalk q
+    (e : ofWalk result ≡ walkAnswer (startOf seven line) noTally 0 (walk seven line 0 Start)) where
+  pub answer-as : {r : Segments} → result ≡ code.Found r → walkAnswer (startOf (isSeven m) line) noTally 0 (walk (isSeven m) line 0 Start) ≡ framed r
+  answer-as q = sym (e ∙ ap (λ t. walkAnswer (startOf t line) noTally 0 (walk t line 0 Start)) s) ∙ ap ofWalk q
 
-  pub refused-as : {r : ReadRefusal} → result ≡ code.Refused r → ofWalk result ≡ framedAnswer (askWalk m line (walk (isSeven m) line 0 Start))
+  pub refused-as : {r : ReadRefusal} → result ≡ code.Refused r → ofWalk result ≡ framedAnswer (isSeven m) line (askWalk m line (walk (isSeven m) line 0 Start))
   refused-as {r} q =
-      ap ofWalk q ∙ sym (refused-by m line (walk (isSeven m) line 0 Start) (readNumber r) (readValue r)
-      (sym (e ∙ ap (λ t. walkAnswer noTally 0 (walk t line 0 Start)) s) ∙ ap ofWalk q))
+      ap ofWalk q ∙ sym (refused-by (startOf (isSeven m) line) m line (walk (isSeven m) line 0 Start) (readNumber r) (readValue r)
+      (sym (e ∙ ap (λ t. walkAnswer (startOf t line) noTally 0 (walk t line 0 Start)) s) ∙ ap ofWalk q))
 
 -- ---- 11 and 12
 
 module _ (m : Method) (p : Parity) (line : List ℕ) where
-  pub too-long : 16384 < length line → refusal 11 0 ≡ framedAnswer (rule.framed m p line)
+  pub too-long : 16384 < length line → refusal 11 0 ≡ framedAnswer (isSeven m) line (rule.framed m p line)
   unfolding rule.framed
   too-long h = rw (lt-leb (length line) 16384 h)
 
   module _ (h : length line ≤ 16384) where
-    pub eight-bit : {seven : Bool} → seven ≡ isSeven m → seven ≡ false → framedAnswer (askWalk m line (walk (isSeven m) line 0 Start)) ≡ framedAnswer (rule.framed m p line)
+    pub eight-bit : {seven : Bool} → seven ≡ isSeven m → seven ≡ false → framedAnswer (isSeven m) line (askWalk m line (walk (isSeven m) line 0 Start)) ≡ framedAnswer (isSeven m) line (rule.framed m p line)
     unfolding rule.framed
     eight-bit s e = rw (le-leb (length line) 16384 h, sym s ∙ e)
 
@@ -261,10 +269,10 @@ module _ (m : Method) (p : Parity) (line : List ℕ) where
           ap (λ t. rule.ask t 11 0 (cond (isSeven m) (askParities p line 0 (askWalk m line (walk (isSeven m) line 0 Start))) (askWalk m line (walk (isSeven m) line 0 Start)))) (le-leb (length line) 16384 h)
           ∙ ap (λ t. cond t (askParities p line 0 (askWalk m line (walk (isSeven m) line 0 Start))) (askWalk m line (walk (isSeven m) line 0 Start))) (sym s ∙ e)
 
-      pub wrong-parity : {at : ℕ} → at ≡ wrongFrom p 0 line → at < length line → refusal 12 at ≡ framedAnswer (rule.framed m p line)
+      pub wrong-parity : {at : ℕ} → at ≡ wrongFrom p 0 line → at < length line → refusal 12 at ≡ framedAnswer (isSeven m) line (rule.framed m p line)
       wrong-parity q k =
-          ap (refusal 12) q ∙ sym (ap framedAnswer (seven-bit ∙ parities-wrong p line 0 _ (omega arith)))
+          ap (refusal 12) q ∙ sym (ap (framedAnswer (isSeven m) line) (seven-bit ∙ parities-wrong p line 0 _ (omega arith)))
 
       pub right-parity : {at : ℕ} → at ≡ wrongFrom p 0 line → length line ≤ at
-          → framedAnswer (askWalk m line (walk (isSeven m) line 0 Start)) ≡ framedAnswer (rule.framed m p line)
-      right-parity q k = sym (ap framedAnswer (seven-bit ∙ parities-right p line 0 _ (omega arith)))
+          → framedAnswer (isSeven m) line (askWalk m line (walk (isSeven m) line 0 Start)) ≡ framedAnswer (isSeven m) line (rule.framed m p line)
+      right-parity q k = sym (ap (framedAnswer (isSeven m) line) (seven-bit ∙ parities-right p line 0 _ (omega arith)))

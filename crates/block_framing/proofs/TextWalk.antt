@@ -11,13 +11,13 @@ use Rattle.block.specs.declared.Mark.{Mark}
 use Rattle.block.specs.declared.Mark.the-variants.{LeftOut, TextByte, End}
 use Rattle.block.specs.declared.Field.{Field}
 use Rattle.block.specs.declared.Field.the-variants.{Text, Clear, ClearDle}
-use Rattle.block.specs.Signs.{Sign, soh, stx, etx, dle, syn, etb, us, other, signOf}
+use Rattle.block.specs.Signs.{Sign, soh, stx, etx, dle, syn, etb, us, other, signOf, isDle}
 use Rattle.block.specs.Characters.{character}
 use Rattle.block.specs.Walk.{inText, inClear, inClearDle}
 use Rattle.block.specs.Walk.{ended, refused, Walked, ahead, onward, walk}
 use Rattle.block.specs.Marks.{isHeader, isText, sift, counted, hasInner}
 use Rattle.block_framing.specs.Framings.{keptBytes}
-use Rattle.block_framing.proofs.KeptBySign.{isDle, kept-plain, kept-clear, kept-behind}
+use Rattle.block_framing.proofs.KeptBySign.{kept-plain, kept-clear, kept-behind}
 
 -- ---- what is left of a line from its text on
 

@@ -20,16 +20,17 @@ use Rattle.block.specs.declared.Field.{Field}
 use Rattle.block.specs.declared.Field.the-variants.{Start, StartDle, Header, HeaderDle, Text, Clear, ClearDle}
 use Rattle.block.specs.declared.Judged.{Judged}
 use Rattle.block.specs.declared.Judged.the-variants.{Is, Ends}
-use Rattle.block.specs.Signs.{DLE, US, Sign, soh, stx, etx, dle, syn, etb, us, other, signOf, OffSigns}
+use Rattle.block.specs.Signs.{DLE, US, Sign, soh, stx, etx, dle, syn, etb, us, other, signOf, OffSigns, isDle}
 use Rattle.block.specs.Characters.{character}
 use Rattle.block.specs.Walk.{halt, cut, onward, judge, walk}
 use Rattle.block.specs.Write.{isOther}
 use Rattle.block.proofs.NoSign.{NoSign, no-sign, off-none, above-none}
 use Rattle.block_framing.specs.declared.Tally.{Tally}
 use Rattle.block_framing.specs.declared.Segments.{Segments}
-use Rattle.block_framing.specs.Framings.{noTally, addMark, framingAt, framed, stopped, walkAnswer, Small}
+use Rattle.block_framing.specs.Framings.{noTally, addMark, startOf, startAt, framingAt, framed, stopped, walkAnswer, Small}
 use Rattle.block_framing.specs.Runs.{isClearData, dataMark, Run, IsData, addRun}
-use Rattle.block_framing.proofs.KeptBySign.{isDle, dle-test}
+use Rattle.block_framing.proofs.KeptBySign.{dle-test}
+use Rattle.block_framing.proofs.Starts.{StartNoted, start-below, start-stays, start-on, start-ended}
 
 -- ---- the tally stays below the place
 
@@ -57,58 +58,69 @@ pub small-marked : {k : Mark} {g : Field} {j : Judged} {t u : Tally} {i : ℕ} (
 small-marked {k} {t = t} {i = i} n q e s h = rw e (small-widen (addMark k i t) (i + 1) n h (small-add-mark k t i s))
 
 -- a line that is cut is refused, whatever was counted
-pub cut-anywhere : (t : Tally) (i : ℕ) (f : Field) → stopped noTally 0 (cut f) ≡ walkAnswer t i (halt (cut f))
-cut-anywhere t i Start = refl
-cut-anywhere t i StartDle = refl
-cut-anywhere t i Header = refl
-cut-anywhere t i HeaderDle = refl
-cut-anywhere t i Text = refl
-cut-anywhere t i Clear = refl
-cut-anywhere t i ClearDle = refl
+pub cut-anywhere : (start : ℕ) (t : Tally) (i : ℕ) (f : Field) → stopped 0 noTally 0 (cut f) ≡ walkAnswer start t i (halt (cut f))
+cut-anywhere start t i Start = refl
+cut-anywhere start t i StartDle = refl
+cut-anywhere start t i Header = refl
+cut-anywhere start t i HeaderDle = refl
+cut-anywhere start t i Text = refl
+cut-anywhere start t i Clear = refl
+cut-anywhere start t i ClearDle = refl
 
 -- ---- the invariant: what is left of the walk gives the whole
 
-pub record Walking (seven : Bool) (line : List ℕ) (t : Tally) (f : Field) (i : ℕ) : Type 0 where
+pub record Walking (seven : Bool) (line : List ℕ) (t : Tally) (f : Field) (start i : ℕ) : Type 0 where
   pub within : i ≤ length line
   pub size : length line ≤ 16384
   pub small : Small t i
-  pub rest : walkAnswer t i (walk seven (drop i line) i f) ≡ walkAnswer noTally 0 (walk seven line 0 Start)
+  pub start-small : start ≤ i
+  pub start-noted : StartNoted seven line f i start
+  pub rest : walkAnswer (startOf seven line) t i (walk seven (drop i line) i f) ≡ walkAnswer (startOf seven line) noTally 0 (walk seven line 0 Start)
 
-pub begin : (seven : Bool) (line : List ℕ) → length line ≤ 16384 → Walking seven line noTally Start 0
+pub begin : (seven : Bool) (line : List ℕ) → length line ≤ 16384 → Walking seven line noTally Start 0 0
 begin seven line h =
     record {
       within = omega arith;
       size = h;
       small = record { inner = omega arith; header = omega arith; text = omega arith; counted = omega arith };
+      start-small = omega arith;
+      start-noted = omega arith;
       rest = refl;
     }
 
-module _ {seven : Bool} {line : List ℕ} {t : Tally} {f : Field} {i : ℕ} (w : Walking seven line t f i) where
+module _ {seven : Bool} {line : List ℕ} {t : Tally} {f : Field} {start i : ℕ} (w : Walking seven line t f start i) where
   -- a line that ends before its end sign
-  pub out : length line ≤ i → walkAnswer t i (halt (cut f)) ≡ walkAnswer noTally 0 (walk seven line 0 Start)
-  out h = sym (ap (λ l. walkAnswer t i (walk seven l i f)) (drop-of-length-le line h)) ∙ w .rest
+  pub out : length line ≤ i → walkAnswer (startOf seven line) t i (halt (cut f)) ≡ walkAnswer (startOf seven line) noTally 0 (walk seven line 0 Start)
+  out h = sym (ap (λ l. walkAnswer (startOf seven line) t i (walk seven l i f)) (drop-of-length-le line h)) ∙ w .rest
 
   module _ (below : i < length line) {c : ℕ} {j : Judged} (char : c ≡ character seven (getD line i 0)) (judged : j ≡ judge seven f (signOf c)) where
-    -- the byte at i, then the walk from i + 1 on
-    pub turned : (k : Judged) → j ≡ k → walkAnswer t i (onward (walk seven (drop (i + 1) line) (i + 1)) f i k) ≡ walkAnswer noTally 0 (walk seven line 0 Start)
-    turned k e =
-        let q : judge seven f (signOf (character seven (getD line i 0))) ≡ k = sym (ap (λ x. judge seven f (signOf x)) char) ∙ sym judged ∙ e in
-        sym (ap (λ x. walkAnswer t i (onward (walk seven (drop (i + 1) line) (i + 1)) f i x)) q)
-        ∙ ap (λ n. walkAnswer t i (onward (walk seven (drop n line) (i + 1)) f i (judge seven f (signOf (character seven (getD line i 0)))))) (add-one i)
-        ∙ sym (ap (λ l. walkAnswer t i (walk seven l i f)) (drop-cons line i 0 below)) ∙ w .rest
+    judged-is : (k : Judged) → j ≡ k → judge seven f (signOf (character seven (getD line i 0))) ≡ k
+    judged-is k e = sym (ap (λ x. judge seven f (signOf x)) char) ∙ sym judged ∙ e
 
-    pub on : {k : Mark} {g : Field} {u : Tally} → j ≡ Is k g → u ≡ addMark k i t → Walking seven line u g (i + 1)
-    on {k} {g} {u} e b =
+    -- the byte at i, then the walk from i + 1 on
+    pub turned : (k : Judged) → j ≡ k
+        → walkAnswer (startOf seven line) t i (onward (walk seven (drop (i + 1) line) (i + 1)) f i k) ≡ walkAnswer (startOf seven line) noTally 0 (walk seven line 0 Start)
+    turned k e =
+        sym (ap (λ x. walkAnswer (startOf seven line) t i (onward (walk seven (drop (i + 1) line) (i + 1)) f i x)) (judged-is k e))
+        ∙ ap (λ n. walkAnswer (startOf seven line) t i (onward (walk seven (drop n line) (i + 1)) f i (judge seven f (signOf (character seven (getD line i 0)))))) (add-one i)
+        ∙ sym (ap (λ l. walkAnswer (startOf seven line) t i (walk seven l i f)) (drop-cons line i 0 below)) ∙ w .rest
+
+    pub on : {k : Mark} {g : Field} {u : Tally} → j ≡ Is k g → u ≡ addMark k i t → {from : ℕ} → from ≡ startAt f i start → Walking seven line u g from (i + 1)
+    on {k} {g} {u} e b {from} x =
         record {
           within = omega arith;
           size = w .size;
           small = rw b (small-add-mark k t i (w .small));
-          rest = ap (λ x. walkAnswer x (i + 1) (walk seven (drop (i + 1) line) (i + 1) g)) b ∙ turned (Is k g) e;
+          start-small = rw x (start-below f (w .start-small));
+          start-noted = rw x (start-on seven line i below f start (w .start-noted) (judged-is (Is k g) e));
+          rest = ap (λ x. walkAnswer (startOf seven line) x (i + 1) (walk seven (drop (i + 1) line) (i + 1) g)) b ∙ turned (Is k g) e;
         }
 
-    pub ends : {e : EndSign} {u : Tally} {r : Segments} → j ≡ Ends e → u ≡ addMark End i t → r ≡ framingAt f e u (i + 1)
-        → framed r ≡ walkAnswer noTally 0 (walk seven line 0 Start)
-    ends {e} q b x = ap framed (x ∙ ap (λ u. framingAt f e u (i + 1)) b) ∙ turned (Ends e) q
+    pub ends : {e : EndSign} {u : Tally} {r : Segments} → j ≡ Ends e → u ≡ addMark End i t → r ≡ framingAt start f e u (i + 1)
+        → framed r ≡ walkAnswer (startOf seven line) noTally 0 (walk seven line 0 Start)
+    ends {e} q b x =
+        ap framed (x ∙ ap (λ u. framingAt start f e u (i + 1)) b ∙ ap (λ s. framingAt s f e (addMark End i t) (i + 1)) (start-ended seven line i f start _ (w .start-noted) (judged-is (Ends e) q)))
+        ∙ turned (Ends e) q
 
 -- ---- runs of data
 
@@ -191,23 +203,36 @@ add-one-more Text n i t = ap₂ (λ h m. record { inner = t .inner; header = t .
 add-one-more Clear n i t = ap₂ (λ h m. record { inner = t .inner; header = t .header; text = h; counted = m }) (one-before (t .text) n) (one-before (t .counted) n)
 add-one-more ClearDle n i t = refl
 
+-- a byte that stays in its field
+steady : {seven : Bool} {line : List ℕ} {t : Tally} {f : Field} {start i : ℕ} → start ≤ i → Walking seven line t f (startAt f i start) (i + 1)
+    → Walking seven line t f start (i + 1)
+steady {seven} {line} {f = f} {start} {i} h w =
+    record {
+      within = w .within;
+      size = w .size;
+      small = w .small;
+      start-small = omega arith;
+      start-noted = start-stays seven line f i start (w .start-noted);
+      rest = w .rest;
+    }
+
 -- the walk passes over a run
-passes : {seven : Bool} {line : List ℕ} (n : ℕ) {t : Tally} {f : Field} {i : ℕ} → Walking seven line t f i → Run (IsData seven f line) (length line) i (i + n)
-    → Walking seven line (addRun f n t) f (i + n)
-passes {seven} {line} zero {t} {f} {i} w r = rw (add-none f t, add-zero i) w
-passes {seven} {line} (suc n) {t} {f} {i} w r =
+passes : {seven : Bool} {line : List ℕ} (n : ℕ) {t : Tally} {f : Field} {start i : ℕ} → Walking seven line t f start i
+    → Run (IsData seven f line) (length line) i (i + n) → Walking seven line (addRun f n t) f start (i + n)
+passes {seven} {line} zero {t} {f} {start} {i} w r = rw (add-none f t, add-zero i) w
+passes {seven} {line} (suc n) {t} {f} {start} {i} w r =
     let below : i < length line = omega (arith, r .within) in
-    let step = on w below refl refl (r .all i (omega arith) (omega arith)) refl in
+    let step = steady (w .start-small) (on w below refl refl (r .all i (omega arith) (omega arith)) refl refl) in
     let rest : Run (IsData seven f line) (length line) (i + 1) (i + 1 + n) =
     record { on = omega arith; within = omega (arith, r .within); all = λ k l m. r .all k (omega arith) (omega arith) } in
     rw (← add-one-more f n i t, ← one-before i n) (passes n step rest)
 
-pub pass : {seven : Bool} {line : List ℕ} {t u : Tally} {f : Field} {i end : ℕ} → Walking seven line t f i → Run (IsData seven f line) (length line) i end
-    → u ≡ addRun f (end - i) t → Walking seven line u f end
-pass {seven} {line} {t} {u} {f} {i} {end} w r e =
+pub pass : {seven : Bool} {line : List ℕ} {t u : Tally} {f : Field} {start i end : ℕ} → Walking seven line t f start i
+    → Run (IsData seven f line) (length line) i end → u ≡ addRun f (end - i) t → Walking seven line u f start end
+pass {seven} {line} {t} {u} {f} {start} {i} {end} w r e =
     let s : i + (end - i) ≡ end = omega (arith, r .on) in
     let m : Run (IsData seven f line) (length line) i (i + (end - i)) = rw s r in
-    rw e (subst (λ (n : ℕ). Walking seven line (addRun f (end - i) t) f n) s (passes (end - i) w m))
+    rw e (subst (λ (n : ℕ). Walking seven line (addRun f (end - i) t) f start n) s (passes (end - i) w m))
 
 -- the run of each field
 pub header-run : (seven : Bool) (line : List ℕ) {from end : ℕ} {f : Field} → f ≡ Header

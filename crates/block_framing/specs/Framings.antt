@@ -16,7 +16,7 @@ use Rattle.block.specs.declared.Mark.{Mark}
 use Rattle.block.specs.declared.Mark.the-variants.{LeftOut, HeaderByte, TextByte, InnerStart, End}
 use Rattle.block.specs.declared.Field.{Field}
 use Rattle.block.specs.declared.Field.the-variants.{Start, StartDle, Header, HeaderDle, Text, Clear, ClearDle}
-use Rattle.block.specs.Signs.{SYN, DLE}
+use Rattle.block.specs.Signs.{SYN, DLE, signOf, isSyn}
 use Rattle.block.specs.Characters.{character, parityRight}
 use Rattle.block.specs.Walk.{Stop, ended, refused, Walked}
 use Rattle.block.specs.Marks.{counted, isHeader, isText, sift}
@@ -56,6 +56,23 @@ pub record Small (t : Tally) (n : ℕ) : Type 0 where
   pub text : t .text ≤ n
   pub counted : t .counted ≤ n
 
+-- ---- the start
+
+-- how many SYN stand ahead of the start, which is its place
+abbrev pub startOf : Bool → List ℕ → ℕ
+startOf seven [] = 0
+startOf seven (b ∷ rest) = cond (isSyn (signOf (character seven b))) (startOf seven rest + 1) 0
+
+-- the place of the start, from a byte of field f at the place `at` on: there where the start is still awaited
+abbrev pub startAt : Field → ℕ → ℕ → ℕ
+startAt Start at start = at
+startAt StartDle at start = start
+startAt Header at start = start
+startAt HeaderDle at start = start
+startAt Text at start = start
+startAt Clear at start = start
+startAt ClearDle at start = start
+
 -- ---- the framing
 
 abbrev pub segments : Shape → EndSign → Tally → ℕ → ℕ → ℕ → ℕ → ℕ → Segments
@@ -74,24 +91,24 @@ segments s e t after head inner body tail =
     }
 
 -- a line whose end sign stands in its header
-abbrev pub headerOnly : EndSign → Tally → ℕ → Segments
-headerOnly e t after = segments shape.Header e t after 1 (after - 1) (after - 1) (after - 1)
+abbrev pub headerOnly : ℕ → EndSign → Tally → ℕ → Segments
+headerOnly start e t after = segments shape.Header e t after (start + 1) (after - 1) (after - 1) (after - 1)
 
--- a line whose end sign stands in field f, behind `after` bytes
-unfoldable pub framingAt : Field → EndSign → Tally → ℕ → Segments
-framingAt Start e t after = headerOnly e t after
-framingAt StartDle e t after = headerOnly e t after
-framingAt Header e t after = headerOnly e t after
-framingAt HeaderDle e t after = headerOnly e t after
-framingAt Clear e t after = headerOnly e t after
-framingAt Text e t after =
+-- a line with its start at the place `start`, whose end sign stands in field f, behind `after` bytes
+unfoldable pub framingAt : ℕ → Field → EndSign → Tally → ℕ → Segments
+framingAt start Start e t after = headerOnly start e t after
+framingAt start StartDle e t after = headerOnly start e t after
+framingAt start Header e t after = headerOnly start e t after
+framingAt start HeaderDle e t after = headerOnly start e t after
+framingAt start Clear e t after = headerOnly start e t after
+framingAt start Text e t after =
     cond (eqb (t .inner) 0)
-    (segments shape.Text e t after 1 1 1 (after - 1))
-    (segments shape.HeaderText e t after 1 (t .inner) (t .inner + 1) (after - 1))
-framingAt ClearDle e t after =
+    (segments shape.Text e t after (start + 1) (start + 1) (start + 1) (after - 1))
+    (segments shape.HeaderText e t after (start + 1) (t .inner) (t .inner + 1) (after - 1))
+framingAt start ClearDle e t after =
     cond (eqb (t .inner) 0)
-    (segments shape.ClearText e t after 2 2 2 (after - 2))
-    (segments shape.HeaderClearText e t after 1 (t .inner) (t .inner + 2) (after - 2))
+    (segments shape.ClearText e t after (start + 2) (start + 2) (start + 2) (after - 2))
+    (segments shape.HeaderClearText e t after (start + 1) (t .inner) (t .inner + 2) (after - 2))
 
 -- a framing, or number and value of a refusal
 pub data WalkAnswer : Type 0 where
@@ -102,22 +119,22 @@ abbrev pub ofWalk : WalkEnd → WalkAnswer
 ofWalk (code.Found f) = framed f
 ofWalk (code.Refused r) = refusal (readNumber r) (readValue r)
 
-abbrev pub stopped : Tally → ℕ → Stop → WalkAnswer
-stopped t at (ended f e) = framed (framingAt f e t at)
-stopped t at (refused number value) = refusal number value
+abbrev pub stopped : ℕ → Tally → ℕ → Stop → WalkAnswer
+stopped start t at (ended f e) = framed (framingAt start f e t at)
+stopped start t at (refused number value) = refusal number value
 
-abbrev pub answerAfter : Tally → ℕ → List Mark → Stop → WalkAnswer
-answerAfter t at [] s = stopped t at s
-answerAfter t at (k ∷ ks) s = answerAfter (addMark k at t) (at + 1) ks s
+abbrev pub answerAfter : ℕ → Tally → ℕ → List Mark → Stop → WalkAnswer
+answerAfter start t at [] s = stopped start t at s
+answerAfter start t at (k ∷ ks) s = answerAfter start (addMark k at t) (at + 1) ks s
 
--- what the walk hands on, from the tally t and the place `at` on
-abbrev pub walkAnswer : Tally → ℕ → Walked → WalkAnswer
-walkAnswer t at w = answerAfter t at (w .marks) (w .stop)
+-- what the walk hands on, of a line with its start at the place `start`, from the tally t and the place `at` on
+abbrev pub walkAnswer : ℕ → Tally → ℕ → Walked → WalkAnswer
+walkAnswer start t at w = answerAfter start t at (w .marks) (w .stop)
 
 -- the same of a line that passed 11 to 17
-abbrev pub framedAnswer : Framed → WalkAnswer
-framedAnswer (found ks f e) = framed (framingAt f e (tallied noTally 0 ks) (length ks))
-framedAnswer (unframed number value) = refusal number value
+abbrev pub framedAnswer : Bool → List ℕ → Framed → WalkAnswer
+framedAnswer seven line (found ks f e) = framed (framingAt (startOf seven line) f e (tallied noTally 0 ks) (length ks))
+framedAnswer seven line (unframed number value) = refusal number value
 
 -- the refusal where no framing was found
 abbrev pub ofUnframed : WalkAnswer → Numbers

@@ -68,7 +68,7 @@ fn first_wrong(p: Parity, line: &[u8]) -> usize
 // Questions 13 to 17.
 fn walk_closed(m: Method, line: &[u8]) -> WalkEnd
     requires { ⌜ length (now line) ≤ 16384 ⌝ }
-    ensures { λ r. ⌜ ofWalk r ≡ framedAnswer (askWalk m (now (line .entry)) (rule.walk (isSeven m) (now (line .entry)) 0 Field.Start)) ⌝ }
+    ensures { λ r. ⌜ ofWalk r ≡ framedAnswer (isSeven m) (now (line .entry)) (askWalk m (now (line .entry)) (rule.walk (isSeven m) (now (line .entry)) 0 Field.Start)) ⌝ }
 {
     let walked = walk(is_seven(m), line);
     let WalkEnd::Found(f) = walked else {
@@ -86,7 +86,7 @@ fn walk_closed(m: Method, line: &[u8]) -> WalkEnd
 
 // Questions 11 to 17.
 pub fn find_framing(m: Method, p: Parity, line: &[u8]) -> WalkEnd
-    ensures { λ r. ⌜ ofWalk r ≡ framedAnswer (framed m p (now (line .entry))) ⌝ }
+    ensures { λ r. ⌜ ofWalk r ≡ framedAnswer (isSeven m) (now (line .entry)) (framed m p (now (line .entry))) ⌝ }
 {
     if line.len() > LINE_LIMIT {
         return WalkEnd::Refused(ReadRefusal::TooLong);

@@ -17,7 +17,7 @@ ghost use mathlib.Core.Path.{_≡_};
 ghost use Prim.Native.Nat.{_-_, _≤_};
 ghost use lib.ListN.{length};
 ghost use Rattle.block.specs.Walk as rule;
-ghost use Rattle.block_framing.specs.Framings.{noTally, firstOf, addMark, segments, framingAt, ofWalk, stopped, walkAnswer, Small};
+ghost use Rattle.block_framing.specs.Framings.{noTally, firstOf, addMark, startOf, startAt, segments, framingAt, ofWalk, stopped, walkAnswer, Small};
 
 // The place before, 0 before the first.
 fn place_before(at: usize) -> usize
@@ -93,48 +93,85 @@ fn segments_at(
     }
 }
 
-// The framing of a line whose end sign stands in field f, behind `after` bytes.
-fn framing_at(f: Field, end: EndSign, t: Tally, after: usize) -> Segments
-    requires { ⌜ Small t 16384 ⌝ }
-    ensures { λ r. ⌜ r ≡ framingAt f end t after ⌝ }
+// Where the start stands, from a byte of field f at the place `at` on: fill signs ahead of it move it on.
+fn start_at(f: Field, at: usize, start: usize) -> usize
+    ensures { λ r. ⌜ r ≡ startAt f at start ⌝ }
 {
+    match f {
+        Field::Start => at,
+        Field::StartDle => start,
+        Field::Header => start,
+        Field::HeaderDle => start,
+        Field::Text => start,
+        Field::Clear => start,
+        Field::ClearDle => start,
+    }
+}
+
+// The framing of a line with its start at the place `start`, whose end sign stands in field f, behind `after` bytes.
+fn framing_at(start: usize, f: Field, end: EndSign, t: Tally, after: usize) -> Segments
+    requires { ⌜ (Small t 16384) × (start ≤ 16384) ⌝ }
+    ensures { λ r. ⌜ r ≡ framingAt start f end t after ⌝ }
+{
+    let head = start + 1;
     let last = place_before(after);
     let inner = t.inner;
     match f {
         Field::Text => {
             if inner == 0 {
-                segments_at(Shape::Text, end, t, after, 1, 1, 1, last)
+                segments_at(Shape::Text, end, t, after, head, head, head, last)
             } else {
-                segments_at(Shape::HeaderText, end, t, after, 1, inner, inner + 1, last)
+                segments_at(
+                    Shape::HeaderText,
+                    end,
+                    t,
+                    after,
+                    head,
+                    inner,
+                    inner + 1,
+                    last,
+                )
             }
         }
         Field::ClearDle => {
             if inner == 0 {
-                segments_at(Shape::ClearText, end, t, after, 2, 2, 2, place_before(last))
+                {
+                    let body = head + 1;
+                    segments_at(
+                        Shape::ClearText,
+                        end,
+                        t,
+                        after,
+                        body,
+                        body,
+                        body,
+                        place_before(last),
+                    )
+                }
             } else {
                 segments_at(
                     Shape::HeaderClearText,
                     end,
                     t,
                     after,
-                    1,
+                    head,
                     inner,
                     inner + 2,
                     place_before(last),
                 )
             }
         }
-        Field::Start => segments_at(Shape::Header, end, t, after, 1, last, last, last),
-        Field::StartDle => segments_at(Shape::Header, end, t, after, 1, last, last, last),
-        Field::Header => segments_at(Shape::Header, end, t, after, 1, last, last, last),
-        Field::HeaderDle => segments_at(Shape::Header, end, t, after, 1, last, last, last),
-        Field::Clear => segments_at(Shape::Header, end, t, after, 1, last, last, last),
+        Field::Start => segments_at(Shape::Header, end, t, after, head, last, last, last),
+        Field::StartDle => segments_at(Shape::Header, end, t, after, head, last, last, last),
+        Field::Header => segments_at(Shape::Header, end, t, after, head, last, last, last),
+        Field::HeaderDle => segments_at(Shape::Header, end, t, after, head, last, last, last),
+        Field::Clear => segments_at(Shape::Header, end, t, after, head, last, last, last),
     }
 }
 
 // The line ends before an end sign.
 fn cut(f: Field) -> WalkEnd
-    ensures { λ r. ⌜ ofWalk r ≡ stopped noTally 0 (rule.cut f) ⌝ }
+    ensures { λ r. ⌜ ofWalk r ≡ stopped 0 noTally 0 (rule.cut f) ⌝ }
 {
     match f {
         Field::Start => WalkEnd::Refused(ReadRefusal::NoStart),
@@ -149,7 +186,7 @@ fn cut(f: Field) -> WalkEnd
 
 pub(crate) fn walk(seven: bool, line: &[u8]) -> WalkEnd
     requires { ⌜ length (now line) ≤ 16384 ⌝ }
-    ensures { λ r. ⌜ ofWalk r ≡ walkAnswer noTally 0 (rule.walk seven (now (line .entry)) 0 Field.Start) ⌝ }
+    ensures { λ r. ⌜ ofWalk r ≡ walkAnswer (startOf seven (now (line .entry))) noTally 0 (rule.walk seven (now (line .entry)) 0 Field.Start) ⌝ }
 {
     let mut t = Tally {
         inner: 0,
@@ -158,6 +195,7 @@ pub(crate) fn walk(seven: bool, line: &[u8]) -> WalkEnd
         counted: 0,
     };
     let mut f = Field::Start;
+    let mut start = 0;
     let mut i = 0;
     while i < line.len() {
         match judge(seven, f, character(seven, line[i])) {
@@ -165,12 +203,13 @@ pub(crate) fn walk(seven: bool, line: &[u8]) -> WalkEnd
                 let next = i + 1;
                 let end = run_end(seven, g, line, next);
                 t = add_run(g, end - next, add_mark(k, i, t));
+                start = start_at(f, i, start);
                 f = g;
                 i = end;
             }
             Judged::Ends(e) => {
                 let counted = add_mark(Mark::End, i, t);
-                return WalkEnd::Found(framing_at(f, e, counted, i + 1));
+                return WalkEnd::Found(framing_at(start, f, e, counted, i + 1));
             }
             Judged::NoStart => {
                 return WalkEnd::Refused(ReadRefusal::NoStart);

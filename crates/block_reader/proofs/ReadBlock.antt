@@ -31,7 +31,7 @@ use Rattle.block.proofs.Passed.{Passed, passed}
 use Rattle.block_framing.specs.declared.Segments.{Segments}
 use Rattle.block_framing.specs.declared.WalkEnd.{WalkEnd}
 use Rattle.block_framing.specs.declared.WalkEnd.the-variants as code
-use Rattle.block_framing.specs.Framings.{noTally, tallied, framingAt, framed, refusal, ofWalk, framedAnswer, headerIn, textIn, countedIn, Ordered, Segmented}
+use Rattle.block_framing.specs.Framings.{noTally, tallied, startOf, framingAt, framed, refusal, ofWalk, framedAnswer, headerIn, textIn, countedIn, Ordered, Segmented}
 use Rattle.block_framing.proofs.FramingLaws.{segmented, Tallied, tally-counts, framing-shape}
 use Rattle.block_framing.proofs.Reading.{Carries, framing-carries}
 use Rattle.block_reader.specs.Counts.{CountsKept, heldBy}
@@ -52,17 +52,17 @@ pub record Found (m : Method) (p : Parity) (line : List ℕ) (r : Segments) : Ty
   pub field : Field
   pub end : EndSign
   pub rules : rule.framed m p line ≡ found marks field end
-  pub framing : r ≡ framingAt field end (tallied noTally 0 marks) (length marks)
+  pub framing : r ≡ framingAt (startOf (isSeven m) line) field end (tallied noTally 0 marks) (length marks)
 
-pub found-framing : (m : Method) (p : Parity) (line : List ℕ) (r : Segments) → framedAnswer (rule.framed m p line) ≡ framed r → Found m p line r
+pub found-framing : (m : Method) (p : Parity) (line : List ℕ) (r : Segments) → framedAnswer (isSeven m) line (rule.framed m p line) ≡ framed r → Found m p line r
 found-framing m p line r q = go (rule.framed m p line) refl
   where
     go : (x : Framed) → rule.framed m p line ≡ x → Found m p line r
     go (found ks f e) s =
-        let c : framed (framingAt f e (tallied noTally 0 ks) (length ks)) ≡ framed r = sym (ap framedAnswer s) ∙ q in
+        let c : framed (framingAt (startOf (isSeven m) line) f e (tallied noTally 0 ks) (length ks)) ≡ framed r = sym (ap (framedAnswer (isSeven m) line) s) ∙ q in
         record { marks = ks; field = f; end = e; rules = s; framing = cc }
     go (unframed n v) s =
-        let c : refusal n v ≡ framed r = sym (ap framedAnswer s) ∙ q in
+        let c : refusal n v ≡ framed r = sym (ap (framedAnswer (isSeven m) line) s) ∙ q in
         absurd (let z : _≡_ {A = ℕ} 0 1 = cc in omega arith)
 
 module _ (m : Method) (p : Parity) (line : List ℕ) (r : Segments) (x : Found m p line r) where
@@ -79,7 +79,7 @@ module _ (m : Method) (p : Parity) (line : List ℕ) (r : Segments) (x : Found m
   carried : Carries (x .end) (tallied noTally 0 ks) (length ks) r
   carried =
       subst (λ (y : Segments). Carries (x .end) (tallied noTally 0 ks) (length ks) y) (sym (x .framing))
-      (framing-carries (x .field) (x .end) (tallied noTally 0 ks) (length ks))
+      (framing-carries (startOf (isSeven m) line) (x .field) (x .end) (tallied noTally 0 ks) (length ks))
 
   tally : Tallied ks line
   tally = tally-counts ks line (omega (arith, through .closes))
@@ -179,17 +179,17 @@ module _ (m : Method) (p : Parity) (line : List ℕ) (r : Segments) (x : Found m
 
 -- ---- no framing
 
-pub no-framing : (m : Method) (p : Parity) (line : List ℕ) (room : ℕ) {w : WalkEnd} {r : ReadRefusal} → ofWalk w ≡ framedAnswer (rule.framed m p line)
+pub no-framing : (m : Method) (p : Parity) (line : List ℕ) (room : ℕ) {w : WalkEnd} {r : ReadRefusal} → ofWalk w ≡ framedAnswer (isSeven m) line (rule.framed m p line)
     → w ≡ code.Refused r → readBlock m p line room ≡ rule.refusal (readNumber r) (readValue r)
 unfolding readBlock
 no-framing m p line room {w} {r} e q = go (rule.framed m p line) refl
   where
     go : (x : Framed) → rule.framed m p line ≡ x → askCheck m p line room (rule.framed m p line) ≡ rule.refusal (readNumber r) (readValue r)
     go (found ks f d) s =
-        let c : refusal (readNumber r) (readValue r) ≡ framed (framingAt f d (tallied noTally 0 ks) (length ks)) = sym (ap ofWalk q) ∙ e ∙ ap framedAnswer s in
+        let c : refusal (readNumber r) (readValue r) ≡ framed (framingAt (startOf (isSeven m) line) f d (tallied noTally 0 ks) (length ks)) = sym (ap ofWalk q) ∙ e ∙ ap (framedAnswer (isSeven m) line) s in
         absurd (let z : _≡_ {A = ℕ} 0 1 = cc in omega arith)
     go (unframed n v) s =
-        let c : refusal (readNumber r) (readValue r) ≡ refusal n v = sym (ap ofWalk q) ∙ e ∙ ap framedAnswer s in
+        let c : refusal (readNumber r) (readValue r) ≡ refusal n v = sym (ap ofWalk q) ∙ e ∙ ap (framedAnswer (isSeven m) line) s in
         let i : n ≡ readNumber r = cc in
         let j : v ≡ readValue r = cc in
         ap (askCheck m p line room) s ∙ ap₂ rule.refusal i j

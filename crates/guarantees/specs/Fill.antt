@@ -1,4 +1,5 @@
--- A line without its fill signs (document 01, part 3): SYN in header and plain text, DLE SYN in clear text. Assumes nothing.
+-- A line without its fill signs (document 01, part 3; document 02, card 1): SYN ahead of the start, in header and in plain text,
+-- DLE SYN in clear text. Assumes nothing.
 use Prim.Native.Nat.{ℕ}
 use mathlib.Core.Bool.{Bool, true, false, not, _&&_}
 use mathlib.Core.List.{List, [], _∷_}
@@ -8,33 +9,13 @@ use Rattle.block.specs.declared.Field.{Field}
 use Rattle.block.specs.declared.Field.the-variants.{Start, StartDle, Header, HeaderDle, Text, Clear, ClearDle}
 use Rattle.block.specs.declared.Judged.{Judged}
 use Rattle.block.specs.declared.Judged.the-variants.{Is, Ends, NoStart, OutOfPlace, DleOutOfPlace}
-use Rattle.block.specs.Signs.{Sign, soh, stx, etx, dle, syn, etb, us, other, signOf}
+use Rattle.block.specs.Signs.{Sign, other, signOf, isSyn, isDle}
 use Rattle.block.specs.Characters.{isSeven, character}
 use Rattle.block.specs.Walk.{judge}
 
-abbrev pub isSyn : Sign → Bool
-isSyn soh = false
-isSyn stx = false
-isSyn etx = false
-isSyn dle = false
-isSyn syn = true
-isSyn etb = false
-isSyn us = false
-isSyn other = false
-
-abbrev pub isDle : Sign → Bool
-isDle soh = false
-isDle stx = false
-isDle etx = false
-isDle dle = true
-isDle syn = false
-isDle etb = false
-isDle us = false
-isDle other = false
-
 -- whether a byte is a fill sign, by the field in which it stands, its sign and the sign after it
 abbrev pub isFill : Field → Sign → Sign → Bool
-isFill Start s next = false
+isFill Start s next = isSyn s
 isFill StartDle s next = false
 isFill Header s next = isSyn s
 isFill HeaderDle s next = false

@@ -5,5 +5,6 @@ pub mod Third
 pub mod Sharp
 pub mod Beyond
 pub mod Fill
+pub mod LeadingFill
 pub mod Second
 pub mod Rows

@@ -1,7 +1,7 @@
 //! The grammar of a block, one function per field:
 //!
 //! ```text
-//! block  = SOH header | STX plain | DLE STX clear
+//! block  = { SYN } ( SOH header | STX plain | DLE STX clear )
 //! header = { character | SYN } ( end | STX plain | DLE STX clear )
 //! plain  = { character | SYN } end
 //! clear  = { byte | DLE DLE | DLE SYN } DLE end
@@ -91,7 +91,12 @@ impl Walk<'_> {
         Err(Refusal::with(14, self.place))
     }
 
+    /// Leading SYN are left out; the start question is put to the first byte
+    /// that is not SYN (document 02, card 1).
     fn block(&mut self) -> Result<(Shape, u8), Refusal> {
+        while self.peek(0) == Some(SYN) {
+            self.leave_out(1);
+        }
         let clear_start = !self.link.seven_bits() && self.peek(1) == Some(STX);
         let header = self.peek(0) == Some(SOH);
         let (text, end_sign) = match self.peek(0) {

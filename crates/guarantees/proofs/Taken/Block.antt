@@ -66,7 +66,7 @@ read-writes-back m p line b room space bytes h fits =
     let r = t .framing in
     let w = passed m p line (r .marks) (r .field) (r .end) (r .is-found) in
     let again = resent (isSeven m) p line bytes (w .parities) in
-    let left = block-left (isSeven m) p line again 0 (ap (λ w. w .stop) (w .walked)) in
+    let left = block-left (isSeven m) p false line again 0 (ap (λ w. w .stop) (w .walked)) in
     ap (λ (b : Parts). writeBlock m p (b .shape) (b .end) (b .header) (b .text) space) (sym (t .parts))
     ∙ written-again m p line (r .marks) (r .field) (r .end) bytes w (t .check-right)
     (subst (λ ks. BlockLeft (isSeven m) p false (r .field) (r .end) ks line (unfilled (isSeven m) line Start)) (ap (λ w. w .marks) (w .walked)) left) space fits

@@ -58,39 +58,42 @@ module _ (seven : Bool) (p : Parity) where
         allowed = record { carried = plain-carried seven; header-fits = refl; text-fits = refl; header-free = tt; text-free = tt };
       }
 
-  module _ {g : Field} {e : EndSign} {ks : List Mark} {line left : List ℕ} {b c : ℕ} (d : Carries seven p b c) (h : BlockLeft true g e ks line left) where
-    pub fill-byte : BlockLeft true g e (LeftOut ∷ ks) (b ∷ line) left
-    fill-byte =
-        record {
-          kind = h .kind;
-          head = h .head;
-          body = h .body;
-          inner = h .inner;
-          is-shape = h .is-shape;
-          is-left = marked seven p d (h .is-left) LeftOut;
-          has-header = h .has-header;
-          allowed = h .allowed;
-        }
+  pub header-byte : {g : Field} {e : EndSign} {ks : List Mark} {line left : List ℕ} {b c : ℕ} → Carries seven p b c
+      → BlockLeft true g e ks line left → isFree seven c ≡ true → BlockLeft true g e (HeaderByte ∷ ks) (b ∷ line) (b ∷ left)
+  header-byte {c = c} d h f =
+      record {
+        kind = h .kind;
+        head = c ∷ h .head;
+        body = h .body;
+        inner = h .inner;
+        is-shape = h .is-shape;
+        is-left = kept seven p d (h .is-left) HeaderByte;
+        has-header = h .has-header;
+        allowed =
+            record {
+              carried = h .allowed .carried;
+              header-fits = rw (h .has-header refl);
+              text-fits = h .allowed .text-fits;
+              header-free = (f, h .allowed .header-free);
+              text-free = h .allowed .text-free;
+            };
+      }
 
-    pub header-byte : isFree seven c ≡ true → BlockLeft true g e (HeaderByte ∷ ks) (b ∷ line) (b ∷ left)
-    header-byte f =
-        record {
-          kind = h .kind;
-          head = c ∷ h .head;
-          body = h .body;
-          inner = h .inner;
-          is-shape = h .is-shape;
-          is-left = kept seven p d (h .is-left) HeaderByte;
-          has-header = h .has-header;
-          allowed =
-              record {
-                carried = h .allowed .carried;
-                header-fits = rw (h .has-header refl);
-                text-fits = h .allowed .text-fits;
-                header-free = (f, h .allowed .header-free);
-                text-free = h .allowed .text-free;
-              };
-        }
+  -- ---- a fill sign, ahead of the start or in the header
+
+  pub fill-byte : {started : Bool} {g : Field} {e : EndSign} {ks : List Mark} {line left : List ℕ} {b c : ℕ} → Carries seven p b c
+      → BlockLeft started g e ks line left → BlockLeft started g e (LeftOut ∷ ks) (b ∷ line) left
+  fill-byte d h =
+      record {
+        kind = h .kind;
+        head = h .head;
+        body = h .body;
+        inner = h .inner;
+        is-shape = h .is-shape;
+        is-left = marked seven p d (h .is-left) LeftOut;
+        has-header = h .has-header;
+        allowed = h .allowed;
+      }
 
   -- ---- the start: SOH before the header
 

@@ -17,7 +17,7 @@ use Rattle.block.specs.declared.Judged.{Judged}
 use Rattle.block.specs.declared.Judged.the-variants.{Is, NoStart, OutOfPlace}
 use Rattle.block.specs.Signs.{Sign, soh, stx, etx, dle, syn, etb, us, other, signOf, STX, endByte}
 use Rattle.block.specs.Characters.{character, sent}
-use Rattle.block.specs.Walk.{ended, Walked, judge, inHeader, inStart, onward, walk}
+use Rattle.block.specs.Walk.{ended, Walked, judge, onward, walk}
 use Rattle.block.specs.Marks.{shapeOf}
 use Rattle.guarantees.specs.Fill.{isFill, firstSign, unfilledBehind, unfilled}
 use Rattle.guarantees.proofs.Taken.Characters.{Resent, OfSign, of-sign, other-free}
@@ -68,7 +68,10 @@ module _ (seven : Bool) (p : Parity) where
       clear-step b rest (r .0) at (walk seven rest (at + 1)) (unfilled seven rest) (text-left seven p rest (r .1) (at + 1) clear-text) started
       (signOf (character seven b)) (of-sign (character seven b)) h
 
-  -- ---- the header and the start
+  -- ---- the start and the header
+
+  abbrev blockField : Bool → Field
+  blockField started = cond started Header Start
 
   abbrev dleJudged : Bool → Bool → Judged
   dleJudged started t = cond t (cond started OutOfPlace NoStart) (cond started (Is InnerStart HeaderDle) (Is LeftOut StartDle))
@@ -76,63 +79,58 @@ module _ (seven : Bool) (p : Parity) where
   module _ {g : Field} {e : EndSign} (b : ℕ) (rest : List ℕ) (r : sent seven p (character seven b) ≡ b) (at : ℕ) (go : Field → Walked) (left : Field → List ℕ)
       (in-plain : go Text .stop ≡ ended g e → TextLeft seven p false g e (go Text .marks) rest (left Text))
       (in-clear : (started : Bool) → go (dleField started) .stop ≡ ended g e → ClearLeft started g e (go (dleField started) .marks) rest (left (dleField started)))
-      (in-header : go Header .stop ≡ ended g e → BlockLeft seven p true g e (go Header .marks) rest (left Header)) where
+      (in-block : (started : Bool) → go (blockField started) .stop ≡ ended g e
+      → BlockLeft seven p started g e (go (blockField started) .marks) rest (left (blockField started))) where
     -- a DLE of the header or at the start
-    dle-step : (started t : Bool) (f : Field) → seven ≡ t → OfSign dle (character seven b) → onward go f at (dleJudged started t) .stop ≡ ended g e
-        → BlockLeft seven p started g e (onward go f at (dleJudged started t) .marks) (b ∷ rest) (b ∷ unfilledBehind left rest (dleJudged started t))
-    dle-step true true f q o h = absurd (not-ended h)
-    dle-step false true f q o h = absurd (not-ended h)
-    dle-step true false f q o h =
+    dle-step : (started t : Bool) → seven ≡ t → OfSign dle (character seven b)
+        → onward go (blockField started) at (dleJudged started t) .stop ≡ ended g e
+        → BlockLeft seven p started g e (onward go (blockField started) at (dleJudged started t) .marks) (b ∷ rest)
+        (b ∷ unfilledBehind left rest (dleJudged started t))
+    dle-step true true q o h = absurd (not-ended h)
+    dle-step false true q o h = absurd (not-ended h)
+    dle-step true false q o h =
         let t = in-clear true h in
         text-block seven p shape.HeaderClearText refl (ap (shapeOf true) (t .ends-in)) (ap (λ t. not (t && true)) q) tt
         (kept seven p (carries seven p r o) (t .is-left) InnerStart)
-    dle-step false false f q o h =
+    dle-step false false q o h =
         let t = in-clear false h in
         text-block seven p shape.ClearText refl (ap (shapeOf false) (t .ends-in)) (ap (λ t. not (t && true)) q) tt
         (kept seven p (carries seven p r o) (t .is-left) LeftOut)
 
-    header-step : (s : Sign) → signOf (character seven b) ≡ s → OfSign s (character seven b) → onward go Header at (inHeader seven s) .stop ≡ ended g e
-        → BlockLeft seven p true g e (onward go Header at (inHeader seven s) .marks) (b ∷ rest)
-        (consIf (not (isFill Header s (firstSign seven rest))) b (unfilledBehind left rest (inHeader seven s)))
-    header-step soh q o h = absurd (not-ended h)
-    header-step stx q o h =
+    block-step : (started : Bool) (s : Sign) → signOf (character seven b) ≡ s → OfSign s (character seven b)
+        → onward go (blockField started) at (judge seven (blockField started) s) .stop ≡ ended g e
+        → BlockLeft seven p started g e (onward go (blockField started) at (judge seven (blockField started) s) .marks) (b ∷ rest)
+        (consIf (not (isFill (blockField started) s (firstSign seven rest))) b (unfilledBehind left rest (judge seven (blockField started) s)))
+    block-step true soh q o h = absurd (not-ended h)
+    block-step true stx q o h =
         let t = in-plain h in
         text-block seven p shape.HeaderText refl (ap (shapeOf true) (t .ends-in)) (plain-carried seven) (t .free)
         (kept seven p (carries seven p r o) (t .is-left) InnerStart)
-    header-step etx q o h = header-end seven p rest (end-carries seven p {d = Etx} r o h) h
-    header-step dle q o h = dle-step true seven Header refl o h
-    header-step syn q o h = fill-byte seven p (carries seven p r o) (in-header h)
-    header-step etb q o h = header-end seven p rest (end-carries seven p {d = Etb} r o h) h
-    header-step us q o h = header-end seven p rest (end-carries seven p {d = Us} r o h) h
-    header-step other q o h = header-byte seven p (carries seven p r refl) (in-header h) (other-free seven b q)
-
-    start-step : (s : Sign) → OfSign s (character seven b) → onward go Start at (inStart seven s) .stop ≡ ended g e
-        → BlockLeft seven p false g e (onward go Start at (inStart seven s) .marks) (b ∷ rest)
-        (consIf (not (isFill Start s (firstSign seven rest))) b (unfilledBehind left rest (inStart seven s)))
-    start-step soh o h = soh-before seven p (carries seven p r o) (in-header h)
-    start-step stx o h =
+    block-step true etx q o h = header-end seven p rest (end-carries seven p {d = Etx} r o h) h
+    block-step true dle q o h = dle-step true seven refl o h
+    block-step true syn q o h = fill-byte seven p (carries seven p r o) (in-block true h)
+    block-step true etb q o h = header-end seven p rest (end-carries seven p {d = Etb} r o h) h
+    block-step true us q o h = header-end seven p rest (end-carries seven p {d = Us} r o h) h
+    block-step true other q o h = header-byte seven p (carries seven p r refl) (in-block true h) (other-free seven b q)
+    block-step false soh q o h = soh-before seven p (carries seven p r o) (in-block true h)
+    block-step false stx q o h =
         let t = in-plain h in
         text-block seven p shape.Text refl (ap (shapeOf false) (t .ends-in)) (plain-carried seven) (t .free)
         (kept seven p (carries seven p r o) (t .is-left) LeftOut)
-    start-step etx o h = absurd (not-ended h)
-    start-step dle o h = dle-step false seven Start refl o h
-    start-step syn o h = absurd (not-ended h)
-    start-step etb o h = absurd (not-ended h)
-    start-step us o h = absurd (not-ended h)
-    start-step other o h = absurd (not-ended h)
+    block-step false etx q o h = absurd (not-ended h)
+    block-step false dle q o h = dle-step false seven refl o h
+    block-step false syn q o h = fill-byte seven p (carries seven p r o) (in-block false h)
+    block-step false etb q o h = absurd (not-ended h)
+    block-step false us q o h = absurd (not-ended h)
+    block-step false other q o h = absurd (not-ended h)
 
-  header-left : {g : Field} {e : EndSign} (line : List ℕ) → Resent seven p line → (at : ℕ) → walk seven line at Header .stop ≡ ended g e
-      → BlockLeft seven p true g e (walk seven line at Header .marks) line (unfilled seven line Header)
-  header-left [] r at h = absurd (not-ended h)
-  header-left (b ∷ rest) r at h =
-      header-step b rest (r .0) at (walk seven rest (at + 1)) (unfilled seven rest) (text-left seven p rest (r .1) (at + 1) plain-text)
-      (λ started. clear-left started rest (r .1) (at + 1)) (header-left rest (r .1) (at + 1)) (signOf (character seven b)) refl (of-sign (character seven b)) h
-
-  -- ---- the whole line
-
-  pub block-left : {g : Field} {e : EndSign} (line : List ℕ) → Resent seven p line → (at : ℕ) → walk seven line at Start .stop ≡ ended g e
-      → BlockLeft seven p false g e (walk seven line at Start .marks) line (unfilled seven line Start)
-  block-left [] r at h = absurd (not-ended h)
-  block-left (b ∷ rest) r at h =
-      start-step b rest (r .0) at (walk seven rest (at + 1)) (unfilled seven rest) (text-left seven p rest (r .1) (at + 1) plain-text)
-      (λ started. clear-left started rest (r .1) (at + 1)) (header-left rest (r .1) (at + 1)) (signOf (character seven b)) (of-sign (character seven b)) h
+  -- from the start on, or from behind SOH on
+  pub block-left : {g : Field} {e : EndSign} (started : Bool) (line : List ℕ) → Resent seven p line → (at : ℕ)
+      → walk seven line at (blockField started) .stop ≡ ended g e
+      → BlockLeft seven p started g e (walk seven line at (blockField started) .marks) line (unfilled seven line (blockField started))
+  block-left true [] r at h = absurd (not-ended h)
+  block-left false [] r at h = absurd (not-ended h)
+  block-left started (b ∷ rest) r at h =
+      block-step b rest (r .0) at (walk seven rest (at + 1)) (unfilled seven rest) (text-left seven p rest (r .1) (at + 1) plain-text)
+      (λ started. clear-left started rest (r .1) (at + 1)) (λ started. block-left started rest (r .1) (at + 1)) started
+      (signOf (character seven b)) refl (of-sign (character seven b)) h

@@ -14,11 +14,11 @@ use Rattle.block.specs.declared.Mark.{Mark}
 use Rattle.block.specs.declared.Mark.the-variants.{LeftOut, TextByte, End}
 use Rattle.block.specs.declared.Field.{Field}
 use Rattle.block.specs.declared.Field.the-variants.{Text, Clear, ClearDle}
-use Rattle.block.specs.Signs.{Sign, soh, stx, etx, dle, syn, etb, us, other, signOf, DLE, endByte}
+use Rattle.block.specs.Signs.{Sign, soh, stx, etx, dle, syn, etb, us, other, signOf, DLE, endByte, isSyn}
 use Rattle.block.specs.Characters.{character, sent}
 use Rattle.block.specs.Walk.{ended, refused, Walked, judge, cut, onward, walk}
 use Rattle.block.specs.Write.{escaped, isFree}
-use Rattle.guarantees.specs.Fill.{isSyn, isFill, firstSign, unfilledBehind, unfilled}
+use Rattle.guarantees.specs.Fill.{isFill, firstSign, unfilledBehind, unfilled}
 use Rattle.guarantees.proofs.Taken.Characters.{Resent, OfSign, of-sign, other-free}
 use Rattle.guarantees.proofs.Writing.{Free}
 use Rattle.guarantees.proofs.Taken.Unfilled.{Carries, Unfilled, unmarked, marked, sent-before, kept}

@@ -22,7 +22,7 @@ module _ (p : Parity) where
   beq-self true = refl
   beq-self false = refl
 
-  right-character : (c : ℕ) → parityRight p (withParity p c) ≡ true
+  pub right-character : (c : ℕ) → parityRight p (withParity p c) ≡ true
   unfolding parityRight
   right-character c =
       let s = lowBits 7 c in

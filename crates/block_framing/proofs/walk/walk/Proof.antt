@@ -12,10 +12,10 @@ use Rattle.block_framing.proofs.walk.walk.Statement.{statement}
 use Rattle.block_framing.proofs.walk.walk.Tie as tie
 
 abbrev Inv-loop : tie.InvT-loop
-Inv-loop seven line t₀ f₀ i₀ t f i = Walking seven line t f i
+Inv-loop seven line t₀ f₀ start₀ i₀ t f start i = Walking seven line t f start i
 
 abbrev μ-loop : tie.MeasureT-loop
-μ-loop seven line t₀ f₀ i₀ t f i = length line - i
+μ-loop seven line t₀ f₀ start₀ i₀ t f start i = length line - i
 
 loop-holds : tie.Need-loop-holds Inv-loop μ-loop
 loop-holds c = begin (c .before .args .seven) (c .before .args .line .now) (c .before .pre)
@@ -53,14 +53,17 @@ add-run-requires c κs =
       omega (arith, c .before .run-end .ensures .within, l .loop .inv .size),
     )
 
+start-at-requires : tie.Need-start-at-requires Inv-loop μ-loop
+start-at-requires c κs = search needs
+
 loop-less : tie.Need-loop-less Inv-loop μ-loop
-loop-less c = omega (arith, c .before .before .run-end .ensures .on, c .before .before .before .before .before .before .before .before .before .loop-test .taken)
+loop-less c = omega (arith, c .before .before .before .run-end .ensures .on, c .before .before .before .before .before .before .before .before .before .before .loop-test .taken)
 
 loop-again : tie.Need-loop-again Inv-loop μ-loop
 loop-again c =
-    let l = c .before .before .before .before .before .before .before .before .before .before in
-    pass (on (l .loop .inv) (c .before .before .before .before .before .before .before .before .before .loop-test .taken) (c .before .before .before .before .before .before .before .character .ensures) (c .before .before .before .before .before .before .judge .ensures) (c .before .before .before .before .k .given .1) (c .before .add-mark .ensures))
-    (c .before .before .run-end .ensures) (c .add-run .ensures)
+    let l = c .before .before .before .before .before .before .before .before .before .before .before in
+    pass (on (l .loop .inv) (c .before .before .before .before .before .before .before .before .before .before .loop-test .taken) (c .before .before .before .before .before .before .before .before .character .ensures) (c .before .before .before .before .before .before .before .judge .ensures) (c .before .before .before .before .before .k .given .1) (c .before .before .add-mark .ensures) (c .start-at .ensures))
+    (c .before .before .before .run-end .ensures) (c .before .add-run .ensures)
 
 enum-known-e : tie.Need-enum-known-e Inv-loop μ-loop
 enum-known-e c = search needs
@@ -75,10 +78,12 @@ add-framing-at c = omega arith
 
 framing-at-requires : tie.Need-framing-at-requires Inv-loop μ-loop
 framing-at-requires c κs =
-    let l = c .before .before .before .before .before .before .before .before in
-    rw (c .add-mark2 .ensures)
-    (small-widen (addMark End (l .loop .i) (l .loop .t)) (l .loop .i + 1) 16384 (omega (arith, c .before .before .before .before .before .before .before .loop-test .taken, l .loop .inv .size))
-    (small-add-mark End (l .loop .t) (l .loop .i) (l .loop .inv .small)))
+    let l = c .before .before .before .before .before .before .before .before in (
+      rw (c .add-mark2 .ensures)
+          (small-widen (addMark End (l .loop .i) (l .loop .t)) (l .loop .i + 1) 16384 (omega (arith, c .before .before .before .before .before .before .before .loop-test .taken, l .loop .inv .size))
+          (small-add-mark End (l .loop .t) (l .loop .i) (l .loop .inv .small))),
+      omega (arith, l .loop .inv .start-small, l .loop .inv .within, l .loop .inv .size),
+    )
 
 returns : tie.Need-returns Inv-loop μ-loop
 returns c =
@@ -119,7 +124,7 @@ cut-requires c κs = search needs
 returns-5 : tie.Need-returns-5 Inv-loop μ-loop
 returns-5 c =
     let l = c .before .before in
-    c .cut .ensures ∙ cut-anywhere (l .loop .t) (l .loop .i) (l .loop .f) ∙ out (l .loop .inv) (c .before .loop-test .left)
+    c .cut .ensures ∙ cut-anywhere _ (l .loop .t) (l .loop .i) (l .loop .f) ∙ out (l .loop .inv) (c .before .loop-test .left)
 
 pub walk-spec : {M : Type 1} → statement M
 walk-spec =
@@ -137,6 +142,7 @@ walk-spec =
     sub-add-run
     add-mark-requires
     add-run-requires
+    start-at-requires
     loop-less
     loop-again
     enum-known-e
