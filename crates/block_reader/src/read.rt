@@ -33,18 +33,18 @@ fn unframed(w: WalkEnd) -> BlockRead
 }
 
 // What an accepted block holds.
-fn taken(f: Segments) -> BlockRead
-    ensures { λ r. ⌜ ofRead r ≡ heldBy f ⌝ }
+fn held(f: Segments) -> Block
+    ensures { λ r. ⌜ ofRead (BlockRead.Taken r) ≡ heldBy f ⌝ }
 {
     let shape = f.shape;
     let end = f.end;
-    BlockRead::Taken(Block {
+    Block {
         shape,
         end,
         header: f.header,
         text: f.text,
         counted: f.counted,
-    })
+    }
 }
 
 // Header, then text, at the start of the output.
@@ -86,5 +86,6 @@ pub fn read_block(method: Method, parity: Parity, line: &[u8], out: &mut [u8]) -
         return BlockRead::Refused(ReadRefusal::OutputShort(needed));
     }
     hand_out(is_seven(method), f, line, &mut *out);
-    taken(f)
+    let block = held(f);
+    BlockRead::Taken(block)
 }

@@ -65,8 +65,8 @@ hand-out-requires c κs =
     let x = found-framing (a .method) (a .parity) (a .line .now) _ (sym (c .before .before .before .before .before .before .before .before .before .find-framing .ensures) ∙ ap ofWalk (c .before .before .before .before .before .before .before .walked .given .1)) in
     (ordered (a .method) (a .parity) (a .line .now) _ x, (rw (c .before .is-seven .ensures) (counts-kept (a .method) (a .parity) (a .line .now) _ x), omega (arith, c .before .before .if2 .left)))
 
-taken-requires : tie.Need-taken-requires
-taken-requires c κs = search needs
+held-requires : tie.Need-held-requires
+held-requires c κs = search needs
 
 same-length : tie.Need-same-length
 same-length c = search needs
@@ -77,7 +77,7 @@ returns-4 c =
     let x = found-framing (a .method) (a .parity) (a .line .now) _ (sym (c .before .before .before .before .before .before .before .before .before .before .before .before .before .find-framing .ensures) ∙ ap ofWalk (c .before .before .before .before .before .before .before .before .before .before .before .walked .given .1)) in
     let fits = c .before .before .before .before .before .before .if2 .left in
     let e = is-taken (a .method) (a .parity) (a .line .now) _ x (c .before .before .before .before .before .before .before .before .before .check-right .ensures) (length (a .out .now)) (not-false _ (c .before .before .before .before .before .before .before .before .if1 .left)) fits in
-    ap₂ called (c .taken .ensures ∙ taken-numbers (a .method) (a .parity) (a .line .now) _ x)
+    ap₂ called (c .held .ensures ∙ taken-numbers (a .method) (a .parity) (a .line .now) _ x)
     (taken-output (a .method) (a .parity) (a .line .now) _ x (a .out .now) fits (rw (c .before .before .before .before .before .is-seven .ensures) at (c .before .before .before .hand-out .ensures)))
     ∙ sym (ap (λ z. afterReading z (a .out .now)) e)
 
@@ -96,6 +96,6 @@ read-block-spec =
     returns-3
     is-seven-requires
     hand-out-requires
-    taken-requires
+    held-requires
     same-length
     returns-4)
