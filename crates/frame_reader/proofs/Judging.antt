@@ -16,9 +16,9 @@ use Rattle.bits.proofs.Bytes.{length-bitsOf, length-lowBits, lowBits-append, va
 use Rattle.registers.specs.Register.{enterByTable, enterAllByTable}
 use Rattle.frame_reader.specs.declared.LineReader.{LineReader}
 use Rattle.frame_reader.specs.declared.ByteRead.{ByteRead}
-use Rattle.zero_insertion.specs.declared.ReceivedByte.{ReceivedByte}
+use Rattle.zero_removal.specs.declared.ReceivedByte.{ReceivedByte}
 use Rattle.frame.specs.Stuffing.{Unstuffed, clean, missing, ahead, onesAfter, unstuff}
-use Rattle.zero_insertion.specs.Bytewise.{onesThrough, onesBefore, inFront, Receives}
+use Rattle.zero_removal.specs.Removal.{onesThrough, onesBefore, inFront, Receives}
 use Rattle.frame_reader.specs.Steps.{ReaderFits, leftAt, wholeBits, ReadsOn, sound, unsound, judged}
 use Rattle.bits.proofs.Tests.{both-true, every, every-at}
 use Rattle.frame.proofs.Words.{join, joined-or, joined-small, joined-bits}

@@ -11,9 +11,9 @@ use Rattle.bits.specs.Bytes.{lowBits, bitsOf}
 use Rattle.bits.proofs.Bytes.{length-lowBits, length-bitsOf}
 use Rattle.frame_reader.specs.declared.LineReader.{LineReader}
 use Rattle.frame_reader.specs.declared.ByteRead.{ByteRead}
-use Rattle.zero_insertion.specs.declared.ReceivedByte.{ReceivedByte}
+use Rattle.zero_removal.specs.declared.ReceivedByte.{ReceivedByte}
 use Rattle.frame.specs.Stuffing.{Unstuffed, clean, missing, unstuffBit, onesAfter, unstuff}
-use Rattle.zero_insertion.specs.Bytewise.{onesThrough, onesBefore, unstuffPart, inFront, Receives}
+use Rattle.zero_removal.specs.Removal.{onesThrough, onesBefore, unstuffPart, inFront, Receives}
 use Rattle.frame_reader.specs.Steps.{dataOf, dataBetween, leftAt, pendingBits, wholeBits, ReadsOn}
 use Rattle.frame_reader.proofs.WholeBytes.{drop-take}
 use Rattle.frame.proofs.Words.{bitsOf-on}

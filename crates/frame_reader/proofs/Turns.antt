@@ -16,9 +16,9 @@ use Rattle.bits.specs.Bytes.{lowBits, bitsOf, value, packInto}
 use Rattle.bits.proofs.Bytes.{length-lowBits, lowBits-mod, value-lowBits}
 use Rattle.frame_reader.specs.declared.LineReader.{LineReader}
 use Rattle.frame_reader.specs.declared.ByteRead.{ByteRead}
-use Rattle.zero_insertion.specs.declared.ReceivedByte.{ReceivedByte}
+use Rattle.zero_removal.specs.declared.ReceivedByte.{ReceivedByte}
 use Rattle.frame_reader.specs.Steps.{dataOf, dataBetween, ReaderFits, pendingBits, leftAt, wholeBits, ReadsOn}
-use Rattle.zero_insertion.specs.Bytewise.{inFront, Receives}
+use Rattle.zero_removal.specs.Removal.{inFront, Receives}
 use Rattle.frame_reader.proofs.Places.{value-more, value-below}
 use Rattle.frame.proofs.Words.{join, joined-or, joined-small, joined-bits, byte-bits, rest-small}
 use Rattle.frame_reader.proofs.Parts.{inFront-none, byte-missing, byte-turn, dataOf-front, byte-ahead, firstReader, reader-left}

@@ -14,7 +14,7 @@ use Rattle.frame.specs.Frame.{width}
 use Rattle.registers.specs.Register.{enterAllByTable}
 use Rattle.frame_reader.specs.declared.LineReader.{LineReader}
 use Rattle.frame_reader.specs.declared.ByteRead.{ByteRead}
-use Rattle.zero_insertion.specs.declared.ReceivedByte.{ReceivedByte}
+use Rattle.zero_removal.specs.declared.ReceivedByte.{ReceivedByte}
 use Rattle.frame_reader.specs.declared.Rest.{Rest}
 use Rattle.frame_reader.specs.declared.Rest.the-variants as last
 use Rattle.frame_reader.specs.declared.Judged.{Judged}
@@ -22,7 +22,7 @@ use Rattle.frame_reader.specs.declared.Judged.the-variants as pass
 use Rattle.frame_reader.specs.declared.WalkEnd.{WalkEnd}
 use Rattle.frame_reader.specs.declared.WalkEnd.the-variants as walk
 use Rattle.frame.specs.Stuffing.{Unstuffed, clean, missing, unstuff}
-use Rattle.zero_insertion.specs.Bytewise.{onesBefore, inFront}
+use Rattle.zero_removal.specs.Removal.{onesBefore, inFront}
 use Rattle.frame.specs.Read as rule
 use Rattle.frame.specs.Answers.{readNumber, readValue, Numbers, refused}
 

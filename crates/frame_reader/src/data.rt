@@ -3,16 +3,22 @@ use crate::ByteRead;
 use crate::LineReader;
 use crate::Rest;
 use frame::BitPlace;
-use zero_insertion::ReceivedByte;
-use zero_insertion::low_byte;
-use zero_insertion::unstuff_byte;
+use zero_removal::ReceivedByte;
+use zero_removal::unstuff_byte;
 ghost use mathlib.Core.Path.{_≡_};
 ghost use mathlib.Core.Bool.{false, cond};
-ghost use Prim.Native.Nat.{_+_, _-_, _*_, _^_, _<_, _≤_};
+ghost use Prim.Native.Nat.{_+_, _-_, _*_, _%_, _^_, _<_, _≤_};
 ghost use lib.ListN.{length, getD};
 ghost use lib.Seq.{sets};
 ghost use Rattle.bits.specs.Bytes.{bitsOf, packInto};
 ghost use Rattle.frame_reader.specs.Steps.{dataBetween, ReaderFits, ReadsOn, leftAt, ofRest, RestFits};
+
+// The low byte of a number.
+pub(crate) fn low_byte(x: u32) -> u8
+    ensures { λ r. ⌜ r ≡ x % 256 ⌝ }
+{
+    (x % 256) as u8
+}
 
 // The bit at a place.
 pub fn bit_at(lent: &[u8], at: usize) -> bool

@@ -3,13 +3,13 @@
 use crate::Judged;
 use crate::LineReader;
 use crate::Rest;
+use crate::data::low_byte;
 use crate::data::read_bits;
 use crate::data::read_rest;
 use frame::BitPlace;
 use registers::enter_byte16;
 use registers::enter_byte32;
-use zero_insertion::low_byte;
-use zero_insertion::unstuff_byte;
+use zero_removal::unstuff_byte;
 ghost use mathlib.Core.Path.{_≡_};
 ghost use Prim.Native.Nat.{_+_, _*_, _^_, _<_, _≤_};
 ghost use lib.ListN.{length};

@@ -14,7 +14,7 @@ use Rattle.frame_writer.specs.declared.BitWriter.{BitWriter}
 use Rattle.zero_insertion.specs.declared.SentByte.{SentByte}
 use Rattle.frame_writer.specs.declared.ZeroCount.{ZeroCount}
 use Rattle.frame.specs.Stuffing.{stuff, runAfter}
-use Rattle.zero_insertion.specs.Bytewise.{runBefore, Sends}
+use Rattle.zero_insertion.specs.Insertion.{runBefore, Sends}
 use Rattle.frame_writer.specs.Steps.{Fits, position, stored, Puts, Counts}
 use Rattle.frame.proofs.Stuffing.{runAfter-append, stuff-append}
 use Rattle.frame.proofs.Words.{join, joined-or, joined-small, joined-bits, byte-bits, store-byte, rest-small}

@@ -24,7 +24,7 @@ use Rattle.frame.specs.Stuffing.{isFifth, runOn, zeroIf, stuff, runAfter}
 use Rattle.frame.specs.Frame.{parametersOf, flag, enclose, frameOf}
 use Rattle.frame.specs.Write.{WriteAnswer, askRoom, writeFrame, writeOutput}
 use Rattle.frame.specs.Answers.{Numbers, frame, refused, afterWriting}
-use Rattle.zero_insertion.specs.Bytewise.{runBefore}
+use Rattle.zero_insertion.specs.Insertion.{runBefore}
 use Rattle.frame_writer.specs.Steps.{Fits, position, stored, Puts, Counts}
 use Rattle.frame.proofs.Stuffing.{runOn-le}
 use Rattle.frame_writer.proofs.Writers.{length-parts, Putting, put-begin, put-turn, puts-append}

@@ -9,7 +9,7 @@ use Rattle.bits.specs.Bytes.{lowBits, pack}
 use Rattle.frame_writer.specs.declared.BitWriter.{BitWriter}
 use Rattle.frame_writer.specs.declared.ZeroCount.{ZeroCount}
 use Rattle.frame.specs.Stuffing.{stuff, runAfter}
-use Rattle.zero_insertion.specs.Bytewise.{runBefore}
+use Rattle.zero_insertion.specs.Insertion.{runBefore}
 
 -- a writer's place is one of a byte, and what it holds has that many bits
 pub record Fits (w : BitWriter) : Type 0 where

@@ -1,7 +1,6 @@
 // Putting bits into bytes, the low bit first. A full byte is stored; the bits of the byte that is not full are held.
 use crate::BitWriter;
 use frame::FLAG;
-use zero_insertion::low_byte;
 use zero_insertion::stuff_byte;
 ghost use mathlib.Core.Path.{_≡_};
 ghost use Prim.Native.Nat.{_+_, _*_, _^_, _<_, _≤_};
@@ -9,7 +8,7 @@ ghost use lib.ListN.{length};
 ghost use Rattle.bits.specs.Bytes.{lowBits, bitsOf};
 ghost use Rattle.frame.specs.Stuffing.{stuff};
 ghost use Rattle.frame.specs.Frame.{flag};
-ghost use Rattle.zero_insertion.specs.Bytewise.{runBefore};
+ghost use Rattle.zero_insertion.specs.Insertion.{runBefore};
 ghost use Rattle.frame_writer.specs.Steps.{Fits, position, stored, Puts};
 
 // Puts a byte of content or check, with the zeros that go into it.
@@ -23,7 +22,7 @@ fn put_byte(out: &mut [u8], w: BitWriter, byte: u8) -> BitWriter
     let zeros = sent.zeros;
     let before = sent.before;
     let held = w.held | (sent.bits << place);
-    out[index] = low_byte(held);
+    out[index] = (held % 256) as u8;
     if zeros == 0 {
         return BitWriter {
             index: index + 1,
@@ -40,7 +39,7 @@ fn put_byte(out: &mut [u8], w: BitWriter, byte: u8) -> BitWriter
             before,
         };
     }
-    out[index + 1] = low_byte(held >> 8);
+    out[index + 1] = ((held >> 8) % 256) as u8;
     BitWriter {
         index: index + 2,
         place: place + zeros - 8,
@@ -70,10 +69,10 @@ pub fn put_flag(out: &mut [u8], w: BitWriter) -> usize
     let index = w.index;
     let place = w.place;
     let held = w.held | ((FLAG as u32) << place);
-    out[index] = low_byte(held);
+    out[index] = (held % 256) as u8;
     if place == 0 {
         return 8 * index + 8;
     }
-    out[index + 1] = low_byte(held >> 8);
+    out[index + 1] = ((held >> 8) % 256) as u8;
     8 * index + place as usize + 8
 }

@@ -1,1 +1,3 @@
-pub mod Bytewise
+pub mod Tests
+pub mod FiveOnes
+pub mod Insertion

@@ -5,7 +5,7 @@ use native.Mathlib.Omega.{arith}
 use Rattle.bits.specs.Bytes.{lowBits, bitsOf}
 use lib.Seq.{slice}
 use Rattle.frame.specs.Stuffing.{unstuff}
-use Rattle.zero_insertion.specs.Bytewise.{onesBefore, inFront}
+use Rattle.zero_removal.specs.Removal.{onesBefore, inFront}
 use Rattle.frame_reader.proofs.Judging.{Resting, rest-begin, rest-missing, rest-zero, rest-one, rest-none, rest-end-missing, rest-end}
 use Rattle.frame_reader.proofs.data.read_rest.Statement.{statement}
 use Rattle.frame_reader.proofs.data.read_rest.Tie as tie

@@ -1,4 +1,5 @@
 -- `put_flag` meets its contract: the flag behind what the writer holds, in one byte or in two. Assumes nothing.
+use mathlib.Core.Path.{refl}
 use native.Mathlib.Omega.{arith}
 use denote.Ref.{now}
 use lib.ListN.{length-set}
@@ -13,8 +14,8 @@ cast-held c = search needs
 shl-held : tie.Need-shl-held
 shl-held c = search needs
 
-low-byte-requires : tie.Need-low-byte-requires
-low-byte-requires c κs = search needs
+cast-out : tie.Need-cast-out
+cast-out c = search needs
 
 slice-write-out : tie.Need-slice-write-out
 slice-write-out c = search needs
@@ -30,19 +31,17 @@ same-length c = search needs
 
 returns : tie.Need-returns
 returns c =
-    let s = c .before .before .before .before in
-    (omega (arith, c .if1 .taken), flag-in-one (now (s .args .out)) (s .args .w) (s .pre .0) (c .before .low-byte .ensures) (c .if1 .taken))
+    let s = c .before .before in
+    (omega (arith, c .if1 .taken), flag-in-one (now (s .args .out)) (s .args .w) (s .pre .0) refl (c .if1 .taken))
 
-low-byte-requires-2 : tie.Need-low-byte-requires-2
-low-byte-requires-2 c κs = search needs
+cast-out-2 : tie.Need-cast-out-2
+cast-out-2 c = search needs
 
 add-out : tie.Need-add-out
 add-out c = search needs
 
 slice-write-out-2 : tie.Need-slice-write-out-2
-slice-write-out-2 c =
-    let s = c .before .before .before .before .before in
-    omega (arith, s .pre .1, c .before .if1 .left, length-set (now (s .args .out)) (s .args .w .index) (c .before .before .low-byte .result))
+slice-write-out-2 c = let s = c .before .before in simp length-set (omega (arith, s .pre .1, c .if1 .left))
 
 mul-result-2 : tie.Need-mul-result-2
 mul-result-2 c = search needs
@@ -61,9 +60,8 @@ same-length-2 c = search needs
 
 returns-2 : tie.Need-returns-2
 returns-2 c =
-    let s = c .before .before .before .before .before in
-    let n = c .before .if1 .left in
-    (omega arith, flag-in-two (now (s .args .out)) (s .args .w) (s .pre .0) (c .before .before .low-byte .ensures) (c .low-byte2 .ensures) n)
+    let s = c .before .before in
+    (omega arith, flag-in-two (now (s .args .out)) (s .args .w) (s .pre .0) refl refl (c .if1 .left))
 
 pub put-flag-spec : {M : Type 1} → statement M
 put-flag-spec =
@@ -71,13 +69,13 @@ put-flag-spec =
     (tie.spec
     cast-held
     shl-held
-    low-byte-requires
+    cast-out
     slice-write-out
     mul-result
     add-result
     same-length
     returns
-    low-byte-requires-2
+    cast-out-2
     add-out
     slice-write-out-2
     mul-result-2

@@ -1,34 +1,12 @@
--- Zero insertion and removal in a part of the line, and in one byte of it. Assumes nothing.
+-- Zero removal in a part of the line, and in one byte of it. Assumes nothing.
 use mathlib.Core.Path.{_≡_}
 use Prim.Native.Nat.{ℕ, _+_, _-_, _/_, _^_, _<_, _≤_}
 use mathlib.Core.Bool.{Bool}
 use mathlib.Core.List.{List, [], _∷_, _++_}
 use lib.Dec.{eqb}
-use lib.Bits.{bitAnd}
 use Rattle.bits.specs.Bytes.{lowBits}
-use Rattle.zero_insertion.specs.declared.SentByte.{SentByte}
-use Rattle.zero_insertion.specs.declared.ReceivedByte.{ReceivedByte}
-use Rattle.frame.specs.Stuffing.{stuff, runAfter, Unstuffed, clean, missing, unstuffBit, onesAfter}
-
--- a one at each place where five ones in a row start
-unfoldable pub fivesIn : ℕ → ℕ
-fivesIn x = bitAnd (bitAnd (bitAnd x (x / 2 ^ 1)) (bitAnd x (x / 2 ^ 1) / 2 ^ 2)) (x / 2 ^ 4)
-
--- ---- sending
-
--- the ones in a row at the end of the last four bits sent
-unfoldable pub runBefore : ℕ → ℕ
-runBefore before = runAfter 0 (lowBits 4 before)
-
--- what a byte becomes behind four bits
-pub record Sends (before byte : ℕ) (s : SentByte) : Type 0 where
-  pub bits-are : stuff (runBefore before) (lowBits 8 byte) ≡ lowBits (8 + s .zeros) (s .bits)
-  pub run-is : runAfter (runBefore before) (lowBits 8 byte) ≡ runBefore (s .before)
-  pub few : s .zeros ≤ 2
-  pub bits-small : s .bits < 2 ^ (8 + s .zeros)
-  pub before-small : s .before < 16
-
--- ---- receiving
+use Rattle.frame.specs.Stuffing.{Unstuffed, clean, missing, unstuffBit, onesAfter}
+use Rattle.zero_removal.specs.declared.ReceivedByte.{ReceivedByte}
 
 -- the ones in a row on the line after some bits
 unfoldable pub onesThrough : ℕ → List Bool → ℕ
