@@ -88,16 +88,15 @@ impl Agreement<'_> {
     }
 
     fn numbers(&mut self) {
-        for n in 0..=9 {
-            for c in 0..=129 {
-                for number in 0..=129 {
-                    let what = || format!("receive {n} {c} {number}");
-                    let call = |calls: &Calls, out: &mut [u8], _: &mut [usize; 5]| {
-                        let answer = out.first_chunk_mut().expect("two bytes are lent");
-                        calls.receive(n, c, number, answer)
-                    };
-                    self.same(&what, 2, &call);
-                }
+        let windows = [0, 1, 2, 7, 8, 64, 127, 128];
+        for (n, w) in (0..=9).flat_map(|n| windows.map(|w| (n, w))) {
+            for (c, number) in (0..=129).flat_map(|c| (0..=129).map(move |b| (c, b))) {
+                let what = || format!("receive {n} {w} {c} {number}");
+                let call = |calls: &Calls, out: &mut [u8], _: &mut [usize; 5]| {
+                    let answer = out.first_chunk_mut().expect("two bytes are lent");
+                    calls.receive(n, w, c, number, answer)
+                };
+                self.same(&what, 2, &call);
             }
         }
     }

@@ -62,16 +62,15 @@ fn refused(held: NumberRecord, refusal: NumberRefusal) -> NumberResult
 }
 
 // d = 0: new, and c moves on; d from 1 to w: a repeat; a larger d: lost.
-fn judge(held: NumberRecord, d: u8) -> NumberResult
-    requires { ⌜ held .n ≤ 7 ⌝ }
-    requires { ⌜ held .c < 2 ^ (held .n) ⌝ }
+fn judge(held: NumberRecord, m: u8, d: u8) -> NumberResult
+    requires { ⌜ m ≡ 2 ^ (held .n) ⌝ }
+    requires { ⌜ held .c < m ⌝ }
     ensures { λ r. ⌜ outcomeOf r ≡ outcome (held .n) (held .w) (held .c) (judged (held .w) d) ⌝ }
 {
     let n = held.n;
     let w = held.w;
     let c = held.c;
     if d == 0 {
-        let m = modulus(n);
         return NumberResult {
             answer: NumberAnswer::New,
             after: NumberRecord {
@@ -113,5 +112,5 @@ pub fn receive(held: NumberRecord, number: u8) -> NumberResult
     if m <= number {
         return refused(held, NumberRefusal::Received);
     }
-    judge(held, wrapped_difference(n, c, number))
+    judge(held, m, wrapped_difference(n, c, number))
 }

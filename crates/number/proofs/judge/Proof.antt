@@ -5,9 +5,6 @@ use native.Mathlib.Omega.{arith}
 use Rattle.number.proofs.judge.Statement.{statement}
 use Rattle.number.proofs.judge.Tie as tie
 
-modulus-requires : tie.Need-modulus-requires
-modulus-requires c κs = search needs
-
 add-t9 : tie.Need-add-t9
 add-t9 c = search needs
 
@@ -15,7 +12,7 @@ rem-t10 : tie.Need-rem-t10
 rem-t10 c = search needs
 
 returns : tie.Need-returns
-returns c = rw (eq-eqb (c .before .before .args .d) 0 (omega arith), c .modulus .ensures)
+returns c = rw (eq-eqb (c .before .args .d) 0 (omega arith), c .before .pre .0)
 
 returns-2 : tie.Need-returns-2
 returns-2 c =
@@ -28,4 +25,4 @@ returns-3 c =
     rw (ne-eqb (a .d) 0 (λ e. omega arith), lt-leb (a .d) (a .held .w) (omega arith))
 
 pub judge-spec : {M : Type 1} → statement M
-judge-spec = tie.close (tie.spec modulus-requires add-t9 rem-t10 returns returns-2 returns-3)
+judge-spec = tie.close (tie.spec add-t9 rem-t10 returns returns-2 returns-3)
