@@ -1,4 +1,4 @@
--- The rule, question by question. Assumes nothing.
+-- The rule, question by question: the outcome at the first that is answered no, and where none is. Assumes nothing.
 use mathlib.Core.Path.{_≡_, sym, ap, _∙_}
 use mathlib.Core.Logic.{_⊎_, inl, inr}
 use mathlib.Core.Bool.{true, false, and-false}
@@ -45,6 +45,7 @@ module _ (n w c b : ℕ) where
         unfolding verdictFor
         bad-received h = by-verdict (rw (modulus, window, lt-ltb c (2 ^ n) awaited, le-ltb b (2 ^ n) h))
 
-        pub all-right : {d : ℕ} {o : Outcome} → b < 2 ^ n → d ≡ difference (2 ^ n) c b → o ≡ outcome n w c (judged w d) → o ≡ receiving n w c b
+        pub all-right : {d : ℕ} {o : Outcome} → b < 2 ^ n → d ≡ difference (2 ^ n) c b → o ≡ outcome n w c (judged w d)
+            → o ≡ receiving n w c b
         unfolding verdictFor
         all-right h e f = f ∙ rw e (by-verdict (rw (modulus, window, lt-ltb c (2 ^ n) awaited, lt-ltb b (2 ^ n) h)))
