@@ -88,16 +88,15 @@ impl Agreement<'_> {
     }
 
     fn numbers(&mut self) {
-        for n in 0..=9 {
-            for c in 0..=129 {
-                for number in 0..=129 {
-                    let what = || format!("receive {n} {c} {number}");
-                    let call = |calls: &Calls, out: &mut [u8], _: &mut [usize; 5]| {
-                        let answer = out.first_chunk_mut().expect("two bytes are lent");
-                        calls.receive(n, c, number, answer)
-                    };
-                    self.same(&what, 2, &call);
-                }
+        let numbers = [0, 1, 2, 3, 4, 7, 8, 63, 64, 126, 127, 128];
+        for (n, w) in (0..=9).flat_map(|n| (0..=129).map(move |w| (n, w))) {
+            for (c, number) in numbers.iter().flat_map(|c| numbers.map(|b| (*c, b))) {
+                let what = || format!("receive {n} {w} {c} {number}");
+                let call = |calls: &Calls, out: &mut [u8], _: &mut [usize; 5]| {
+                    let answer = out.first_chunk_mut().expect("two bytes are lent");
+                    calls.receive(n, w, c, number, answer)
+                };
+                self.same(&what, 2, &call);
             }
         }
     }

@@ -12,7 +12,7 @@ type WriteBlock = unsafe extern "C" fn(
 type ReadFrame =
     unsafe extern "C" fn(u8, usize, *const u8, usize, *mut u8, usize, *mut usize) -> u32;
 type WriteFrame = unsafe extern "C" fn(u8, *const u8, usize, *mut u8, usize, *mut usize) -> u32;
-type Receive = unsafe extern "C" fn(u8, u8, u8, *mut u8) -> u32;
+type Receive = unsafe extern "C" fn(u8, u8, u8, u8, *mut u8) -> u32;
 type Check16 = unsafe extern "C" fn(*const u8, usize) -> u16;
 type Check32 = unsafe extern "C" fn(*const u8, usize) -> u32;
 
@@ -90,8 +90,8 @@ impl Calls {
     }
 
     #[inline(always)]
-    pub fn receive(&self, n: u8, c: u8, number: u8, answer: &mut [u8; 2]) -> u32 {
-        unsafe { (self.receive)(n, c, number, answer.as_mut_ptr()) }
+    pub fn receive(&self, n: u8, w: u8, c: u8, number: u8, answer: &mut [u8; 2]) -> u32 {
+        unsafe { (self.receive)(n, w, c, number, answer.as_mut_ptr()) }
     }
 
     /// The check of a method 3 to 6.
@@ -120,7 +120,7 @@ macro_rules! linked {
                 _: *const u8, _: usize, _: *mut u8, _: usize, _: *mut usize) -> u32;
             fn $read_frame(_: u8, _: usize, _: *const u8, _: usize, _: *mut u8, _: usize, _: *mut usize) -> u32;
             fn $write_frame(_: u8, _: *const u8, _: usize, _: *mut u8, _: usize, _: *mut usize) -> u32;
-            fn $receive(_: u8, _: u8, _: u8, _: *mut u8) -> u32;
+            fn $receive(_: u8, _: u8, _: u8, _: u8, _: *mut u8) -> u32;
             fn $check_3(_: *const u8, _: usize) -> u16;
             fn $check_4(_: *const u8, _: usize) -> u16;
             fn $check_5(_: *const u8, _: usize) -> u16;

@@ -144,8 +144,8 @@ pub fn write_frame(random: &mut Random, method: u8, length: usize) -> Case {
     })
 }
 
-/// Numbers modulo 8: mostly the awaited one, one in sixteen a repeat, one
-/// after a loss.
+/// Numbers modulo 8, window 2: mostly the awaited one, one in sixteen a repeat,
+/// one after a loss.
 pub fn receive() -> Case {
     let told = |at: u8| {
         let awaited = at % 8;
@@ -158,7 +158,7 @@ pub fn receive() -> Case {
     };
     let mut answer = [0; 2];
     in_turn((0..64).map(told).collect(), move |calls, (c, number)| {
-        black_box(calls.receive(3, *c, *number, &mut answer));
+        black_box(calls.receive(3, 2, *c, *number, &mut answer));
         black_box(&answer);
     })
 }

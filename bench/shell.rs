@@ -79,8 +79,8 @@ call! { write_frame(method: u8; content[content_length]; out[room])
     }
 }
 
-pub unsafe extern "C" fn receive(n: u8, c: u8, number: u8, answer: *mut u8) -> u32 {
-    let (refusal, values) = match peer_fast::receive(n, c, number) {
+pub unsafe extern "C" fn receive(n: u8, w: u8, c: u8, number: u8, answer: *mut u8) -> u32 {
+    let (refusal, values) = match peer_fast::receive(n, w, c, number) {
         Ok((arrival, awaited)) => (0, [arrival as u8, awaited]),
         Err(refusal) => (refusal.number, [0, c]),
     };

@@ -197,18 +197,23 @@ uint32_t corridor_write_frame(uint8_t method,
  * Judges a received number, modulus 2^n.
  *
  *   n            1 to 7
+ *   w            the link's window, 1 to the modulus less 1: the most blocks
+ *                that the far station has on the way
  *   c            the awaited number, below the modulus
  *   number       the received number, below the modulus
  *
- * Returns 0:     answer[0] 1 new, 2 repeat, 3 lost
+ * Returns 0:     answer[0] 1 new: number is c
+ *                          2 repeat: number is one of the w before c
+ *                          3 lost: number is any other
  *                answer[1] the number awaited from now on: after 1 the next
  *                one modulo 2^n, otherwise c
  * Otherwise answer[0] is 0 and answer[1] is c:
  *   41  n is not from 1 to 7
+ *   51  w is not from 1 to the modulus less 1; asked before 42
  *   42  c is not below the modulus
  *   43  number is not below the modulus
  */
-uint32_t corridor_receive(uint8_t n, uint8_t c, uint8_t number,
+uint32_t corridor_receive(uint8_t n, uint8_t w, uint8_t c, uint8_t number,
                           uint8_t answer[2]);
 
 /*

@@ -91,17 +91,20 @@ static void frame(void)
     expect(number == 38 && length == 2, "a short output names what it needs");
 }
 
-/* Modulus 8: the awaited number is new, an older one a repeat. */
+/* Modulus 8, window 2: the awaited number is new, each of the two before it a
+ * repeat, and any other shows that blocks were lost. */
 static void numbers(void)
 {
     uint8_t answer[2];
 
-    expect(corridor_receive(3, 2, 2, answer) == 0, "the number is judged");
+    expect(corridor_receive(3, 2, 2, 2, answer) == 0, "the number is judged");
     expect(answer[0] == CORRIDOR_NEW && answer[1] == 3, "it is new");
-    expect(corridor_receive(3, 2, 7, answer) == 0, "the number is judged");
+    expect(corridor_receive(3, 2, 2, 0, answer) == 0, "the number is judged");
     expect(answer[0] == CORRIDOR_REPEAT && answer[1] == 2, "it is a repeat");
-    expect(corridor_receive(3, 8, 0, answer) == 42, "c is out of range");
-    printf("numbers: new, repeat, refused 42\n");
+    expect(corridor_receive(3, 2, 2, 7, answer) == 0, "the number is judged");
+    expect(answer[0] == CORRIDOR_LOST && answer[1] == 2, "blocks were lost");
+    expect(corridor_receive(3, 8, 2, 2, answer) == 51, "w is out of range");
+    printf("numbers: new, repeat, lost, refused 51\n");
 }
 
 int main(void)

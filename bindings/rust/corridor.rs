@@ -185,12 +185,13 @@ pub fn write_frame(method: FrameMethod, content: &[u8], out: &mut [u8]) -> Resul
     value_of(number, value)
 }
 
-/// Judges a received number against the awaited one, modulus 2^n; gives the
-/// arrival and the number awaited afterwards. After a refusal the awaited
-/// number stays.
-pub fn receive(n: u8, awaited: u8, received: u8) -> Result<(Arrival, u8), Refusal> {
+/// Judges a received number against the awaited one, modulus 2^n: the awaited
+/// one is new, each of the `window` before it a repeat, and any other shows
+/// that blocks were lost. Gives the arrival and the number awaited afterwards.
+/// After a refusal the awaited number stays.
+pub fn receive(n: u8, window: u8, awaited: u8, received: u8) -> Result<(Arrival, u8), Refusal> {
     let mut answer = [0; 2];
-    let number = codes::receive(n, awaited, received, &mut answer);
+    let number = codes::receive(n, window, awaited, received, &mut answer);
     value_of(number, 0)?;
     let arrival = match answer[0] {
         1 => Arrival::New,
@@ -320,9 +321,9 @@ pub mod codes {
     }
 
     /// `corridor_receive`
-    pub fn receive(n: u8, c: u8, number: u8, answer: &mut [u8; 2]) -> u32 {
+    pub fn receive(n: u8, w: u8, c: u8, number: u8, answer: &mut [u8; 2]) -> u32 {
         // SAFETY: `answer` is lent for writing and holds two bytes.
-        unsafe { interface::corridor_receive(n, c, number, answer.as_mut_ptr()) }
+        unsafe { interface::corridor_receive(n, w, c, number, answer.as_mut_ptr()) }
     }
 }
 
@@ -368,7 +369,7 @@ mod interface {
             out_length: usize,
             value: *mut usize,
         ) -> u32;
-        pub fn corridor_receive(n: u8, c: u8, number: u8, answer: *mut u8) -> u32;
+        pub fn corridor_receive(n: u8, w: u8, c: u8, number: u8, answer: *mut u8) -> u32;
         pub fn corridor_check_3(content: *const u8, length: usize) -> u16;
         pub fn corridor_check_4(content: *const u8, length: usize) -> u16;
         pub fn corridor_check_5(content: *const u8, length: usize) -> u16;

@@ -16,7 +16,7 @@ fn run() -> Result<(), Refusal> {
     block()?;
     refused_block();
     frame()?;
-    let (arrival, awaited) = corridor::receive(3, 2, 2)?;
+    let (arrival, awaited) = corridor::receive(3, 2, 2, 2)?;
     assert_eq!((arrival, awaited), (Arrival::New, 3));
     println!("number 2: {arrival:?}, then {awaited} is awaited");
     println!("check of method 3: {:04X}", corridor::check_3(b"123456789"));

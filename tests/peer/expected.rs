@@ -118,16 +118,11 @@ pub fn write_frame(method: u8, content: &[u8]) -> Expected {
     }
 }
 
-pub fn receive(n: u8, c: u8, received: u8) -> Expected {
-    let (number, arrival, awaited) = match number::receive(n, c, received) {
-        Ok((arrival, awaited)) => (0, arrival as usize, awaited),
-        Err(refusal) => (refusal.number, 0, c),
-    };
-    let values = vec![arrival, usize::from(awaited)];
-    Expected {
-        number,
-        values,
-        out: Vec::new(),
-        too_short: 0,
+/// Number and answer; nothing is written, and nothing allocated, since this
+/// call is tried more often than any other.
+pub fn receive(n: u8, w: u8, c: u8, received: u8) -> (u32, [u8; 2]) {
+    match number::receive(n, w, c, received) {
+        Ok((arrival, awaited)) => (0, [arrival as u8, awaited]),
+        Err(refusal) => (refusal.number, [0, c]),
     }
 }

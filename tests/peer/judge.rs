@@ -135,16 +135,17 @@ impl Judge {
         (value, expected.out)
     }
 
-    pub fn receive(&mut self, n: u8, c: u8, received: u8) {
-        let input = || format!("n {n} c {c} number {received}");
+    pub fn receive(&mut self, n: u8, w: u8, c: u8, received: u8) {
         let mut answer = [0x5A; 2];
-        let number = codes::receive(n, c, received, &mut answer);
-        let expected = expected::receive(n, c, received);
-        let answer = answer.map(usize::from);
-        let untouched = before(GUARD);
-        same("receive", &expected, number, &answer, &untouched, &input);
+        let number = codes::receive(n, w, c, received, &mut answer);
+        let expected = expected::receive(n, w, c, received);
+        if (number, answer) != expected {
+            let input = format!("n {n} w {w} c {c} number {received}");
+            let (library, peer) = (format!("{number} {answer:?}"), format!("{expected:?}"));
+            differ("receive", &input, &library, &peer);
+        }
         self.tally.note(Call::Receive, number, 0);
-        typed::receive(n, c, received, &expected);
+        typed::receive((n, w, c), received, expected);
     }
 
     /// All four checks of one content.

@@ -159,11 +159,14 @@ fn flagged(inside: &[u8], bits: usize) -> Vec<u8> {
     line.as_bytes().chunks(8).map(byte).collect()
 }
 
-/// Row 14: modulus 8, awaited 2.
+/// Row 14: modulus 8, awaited 2; with the window 2 of document 02, and with 4.
 fn numbers(judge: &mut Judge) {
-    for (received, arrival) in [(7, corridor::Arrival::Repeat), (3, corridor::Arrival::Lost)] {
-        judge.receive(3, 2, received);
-        expect("14", corridor::receive(3, 2, received), Ok((arrival, 2)));
+    use corridor::Arrival::{Lost, Repeat};
+    let steps = [(2, 7, Lost), (2, 3, Lost), (4, 7, Repeat), (4, 3, Lost)];
+    for (window, received, arrival) in steps {
+        judge.receive(3, window, 2, received);
+        let library = corridor::receive(3, window, 2, received);
+        expect("14", library, Ok((arrival, 2)));
     }
 }
 

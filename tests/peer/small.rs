@@ -223,12 +223,14 @@ fn write_codes(judge: &mut Judge, code: u8, other: u8) {
     }
 }
 
-/// Every n, c and received number.
+/// Every w, c and received number under every n up to 8, and under each
+/// larger n every w and c.
 fn numbers(judge: &mut Judge) {
     for n in 0..=255 {
-        for c in 0..=255 {
-            for received in 0..=255 {
-                judge.receive(n, c, received);
+        for (w, c) in (0..=255).flat_map(|w| (0..=255).map(move |c| (w, c))) {
+            let numbers = if n <= 8 { 0..=255 } else { c..=c };
+            for received in numbers {
+                judge.receive(n, w, c, received);
             }
         }
     }

@@ -18,14 +18,14 @@ const CALLS: [(Call, &str, &[usize]); 5] = [
     (Call::Receive, "judge a number", &[]),
 ];
 
-/// Every number that document 01 gives to a question of the call.
-fn questions(call: Call) -> std::ops::RangeInclusive<usize> {
+/// Every number that documents 01 and 02 give to a question of the call.
+fn questions(call: Call) -> &'static [usize] {
     match call {
-        Call::ReadBlock => 11..=19,
-        Call::WriteBlock => 1..=6,
-        Call::ReadFrame => 31..=38,
-        Call::WriteFrame => 21..=23,
-        Call::Receive => 41..=43,
+        Call::ReadBlock => &[11, 12, 13, 14, 15, 16, 17, 18, 19],
+        Call::WriteBlock => &[1, 4, 2, 3, 5, 6],
+        Call::ReadFrame => &[31, 32, 33, 34, 35, 36, 37, 38],
+        Call::WriteFrame => &[21, 22, 23],
+        Call::Receive => &[41, 51, 42, 43],
     }
 }
 
@@ -60,12 +60,12 @@ impl Tally {
         self.counts.iter().flatten().flatten().sum()
     }
 
-    /// The numbers of document 01 that their call never answered, and calls
-    /// that never succeeded (0).
+    /// The numbers that their call never answered, and calls that never
+    /// succeeded (0).
     pub fn missing(&self) -> Vec<(Call, usize)> {
         let mut missing = Vec::new();
         for (call, _, _) in CALLS {
-            for number in std::iter::once(0).chain(questions(call)) {
+            for &number in [0].iter().chain(questions(call)) {
                 let met: u64 = self.counts[call as usize][number].iter().sum();
                 if met == 0 {
                     missing.push((call, number));

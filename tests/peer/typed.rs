@@ -122,13 +122,19 @@ pub fn write_frame(method: u8, content: &[u8], expected: &Expected, room: usize)
     );
 }
 
-pub fn receive(n: u8, c: u8, received: u8, expected: &Expected) {
-    let code = |arrival| match arrival {
-        Arrival::New => 1,
-        Arrival::Repeat => 2,
-        Arrival::Lost => 3,
+pub fn receive((n, w, c): (u8, u8, u8), received: u8, (number, answer): (u32, [u8; 2])) {
+    let arrival = match answer[0] {
+        1 => Arrival::New,
+        2 => Arrival::Repeat,
+        _ => Arrival::Lost,
     };
-    let got = corridor::receive(n, c, received);
-    let got = got.map(|(arrival, awaited)| vec![code(arrival), usize::from(awaited)]);
-    same("typed receive", expected, got, &[]);
+    let wanted = match number {
+        0 => Ok((arrival, answer[1])),
+        _ => Err(Refusal { number, value: 0 }),
+    };
+    let got = corridor::receive(n, w, c, received);
+    if got != wanted {
+        let (library, peer) = (format!("{got:?}"), format!("{wanted:?}"));
+        differ("typed receive", "as the call by codes", &library, &peer);
+    }
 }

@@ -11,6 +11,7 @@ fn refusal_number(refusal: NumberRefusal) -> u32
 {
     match refusal {
         NumberRefusal::Modulus => 41,
+        NumberRefusal::Window => 51,
         NumberRefusal::Awaited => 42,
         NumberRefusal::Received => 43,
     }

@@ -26,6 +26,6 @@ module _ {out : List ℕ} where
       → valueCall n out ≡ frameCall c
   frame-answered e f = rw f (ap frameCall e)
 
-pub received : (n c b : ℕ) (r : NumberResult) {v : VerdictNumbers} → outcomeOf r ≡ receiving n c b → v ≡ verdictNumbers (outcomeOf r .verdict)
-    → receivedBy v (r .after .c) ≡ receiveCall n c b
-received n c b r e f = rw f (ap afterReceiving e)
+pub received : (n w c b : ℕ) (r : NumberResult) {v : VerdictNumbers} → outcomeOf r ≡ receiving n w c b → v ≡ verdictNumbers (outcomeOf r .verdict)
+    → receivedBy v (r .after .c) ≡ receiveCall n w c b
+received n w c b r e f = rw f (ap afterReceiving e)

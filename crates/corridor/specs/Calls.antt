@@ -97,6 +97,6 @@ receivedBy numbers c = called (numbers .number) (numbers .verdict ∷ c ∷ []) 
 abbrev pub afterReceiving : Outcome → Call
 afterReceiving o = receivedBy (verdictNumbers (o .verdict)) (o .c)
 
--- of n, c and the received number
-abbrev pub receiveCall : ℕ → ℕ → ℕ → Call
-receiveCall n c number = afterReceiving (receiving n c number)
+-- of n, w, c and the received number
+abbrev pub receiveCall : ℕ → ℕ → ℕ → ℕ → Call
+receiveCall n w c number = afterReceiving (receiving n w c number)

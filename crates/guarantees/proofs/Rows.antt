@@ -7,6 +7,7 @@ use Rattle.division.specs.Division.{divide, remainder}
 use Rattle.division.specs.Generators.{ccitt16, ibm16}
 use Rattle.cyclic.specs.Check.{formula, checkBits, checkedBits, method3, method4, method5}
 use Rattle.number.specs.Number.{difference, verdictFor, receiving}
+use Rattle.number.specs.History.{history}
 use Rattle.block.specs.Signs.{signOf}
 use Rattle.block.specs.Characters.{character, parityRight}
 use Rattle.block.specs.Check.{columnSums, matrixCheck, checkOf}
@@ -18,5 +19,5 @@ use Rattle.frame.specs.Write.{writeFrame}
 use Rattle.guarantees.specs.Rows.{resultOf, rows, results}
 
 pub starred-rows : map resultOf rows ≡ results
-unfolding lowBits bitsOf value packInto pack divide remainder ccitt16 ibm16 formula checkBits checkedBits method3 method4 method5 difference verdictFor receiving signOf character parityRight columnSums matrixCheck checkOf framed framingOf readBlock isFifth runOn stuff unstuff flag enclose frameOf frame-reading.framed writeFrame xor
+unfolding lowBits bitsOf value packInto pack divide remainder ccitt16 ibm16 formula checkBits checkedBits method3 method4 method5 difference verdictFor receiving history signOf character parityRight columnSums matrixCheck checkOf framed framingOf readBlock isFifth runOn stuff unstuff flag enclose frameOf frame-reading.framed writeFrame xor
 starred-rows = refl

@@ -1,13 +1,14 @@
 -- The starred rows of document 01, "Lines to try": what is put to the rules, and what they are to answer. Assumes nothing.
 use Prim.Native.Nat.{ℕ}
 use mathlib.Core.Bool.{Bool, true, false, _&&_}
-use mathlib.Core.List.{List, [], _∷_}
+use mathlib.Core.List.{List, [], _∷_, map}
 use lib.Dec.{eqb}
 use lib.ListN.{length}
 use Rattle.bits.specs.Bytes.{pack}
 use Rattle.bits.specs.Differences.{differingBits}
 use Rattle.cyclic.specs.Check.{Parameters, method5}
-use Rattle.number.specs.Number.{Verdict, repeat, lost, receiving}
+use Rattle.number.specs.Number.{Verdict, repeat, lost, Outcome}
+use Rattle.number.specs.History.{history}
 use Rattle.block.specs.declared.Method.{Method}
 use Rattle.block.specs.declared.Method.the-variants.{Matrix, Cyclic, CyclicAlternative}
 use Rattle.block.specs.declared.Parity.{Parity}
@@ -21,13 +22,13 @@ use Rattle.block.specs.Read.{Framing, none, framing, framingOf, ReadAnswer, tak
 use Rattle.frame.specs.Read.{Framed, found, unframed, framed, checkIn}
 use Rattle.frame.specs.Write as frames
 
--- what is put to a rule: a line to read; a line to read and to compare with row 1; a content to write as a frame; n, c and the
+-- what is put to a rule: a line to read; a line to read and to compare with row 1; a content to write as a frame; n, w, c and the
 -- numbers received in turn
 pub data Row : Type 0 where
   read : Method → Parity → List ℕ → Row
   compare : Method → Parity → List ℕ → Row
   write : Parameters → List ℕ → Row
-  receive : ℕ → ℕ → List ℕ → Row
+  receive : ℕ → ℕ → ℕ → List ℕ → Row
 
 -- what it answers: to a comparison also the number of differing bits and whether the framings are one; of a written frame the
 -- check in it and its number of bits
@@ -69,16 +70,11 @@ abbrev pub frameResult : Parameters → frames.WriteAnswer → Result
 frameResult m (frames.written bits) = frame (checkFound m (framed m bits)) (length bits)
 frameResult m (frames.refusal number value) = refused number value
 
--- each verdict, c going on from one number to the next
-abbrev pub verdictsFrom : ℕ → ℕ → List ℕ → List Verdict
-verdictsFrom n c [] = []
-verdictsFrom n c (b ∷ bs) = receiving n c b .verdict ∷ verdictsFrom n (receiving n c b .c) bs
-
 abbrev pub resultOf : Row → Result
 resultOf (read m p line) = block (readBlock m p line room)
 resultOf (compare m p line) = compared (readBlock m p line room) (length (differingBits row1 line)) (sameFraming (framingOf m p row1) (framingOf m p line))
 resultOf (write m content) = frameResult m (frames.writeFrame m content room)
-resultOf (receive n c bs) = received (verdictsFrom n c bs)
+resultOf (receive n w c bs) = received (map (λ (o : Outcome). o .verdict) (history n w c bs))
 
 -- ---- the table
 
@@ -100,8 +96,9 @@ rows =
     -- 11 and 12
     ∷ write method5 (0xFF ∷ [])
     ∷ write method5 (0xFF ∷ 0xFF ∷ [])
-    -- 14
-    ∷ receive 3 2 (7 ∷ 3 ∷ [])
+    -- 14 with w = 2 (document 02, card 2), and with w = 4, where it is as document 01 has it
+    ∷ receive 3 2 2 (7 ∷ 3 ∷ [])
+    ∷ receive 3 4 2 (7 ∷ 3 ∷ [])
     ∷ []
 
 abbrev pub parts : Shape → EndSign → List ℕ → List ℕ → ℕ → ReadAnswer
@@ -125,6 +122,7 @@ results =
     -- 11 and 12
     ∷ frame (0x00 ∷ 0xFF ∷ []) 42
     ∷ frame (0xFF ∷ 0xFF ∷ []) 54
-    -- 14
+    -- 14 with w = 2, and with w = 4
+    ∷ received (lost ∷ lost ∷ [])
     ∷ received (repeat ∷ lost ∷ [])
     ∷ []

@@ -1,3 +1,5 @@
 pub mod Residues
 pub mod Outcomes
+pub mod OneToOne
 pub mod Histories
+pub mod Window

@@ -1,97 +1,51 @@
--- The rule by the questions answered no and by the difference, and answers told apart by their outcomes. Assumes nothing.
-use mathlib.Core.Path.{_≡_, refl, sym, ap, ap₂, _∙_}
-use Prim.Native.Nat.{ℕ, _*_, _/_, _%_, _^_, _≤_, _<_}
-use native.Mathlib.Nat.{one-mul, mod-eq-of-lt}
+-- The rule, question by question: the outcome at the first that is answered no, and where none is. Assumes nothing.
+use mathlib.Core.Path.{_≡_, sym, ap, _∙_}
+use mathlib.Core.Logic.{_⊎_, inl, inr}
+use mathlib.Core.Bool.{true, false, and-false}
+use Prim.Native.Nat.{ℕ, _-_, _^_, _≤_, _<_}
 use native.Mathlib.Omega.{arith}
-use lib.Pow.{pow-lt}
-use borrow.Author.Tests.{lt-ltb, le-ltb, le-leb, lt-leb, eq-eqb, ne-eqb}
-use Rattle.number.specs.declared.NumberRefusal.{NumberRefusal}
-use Rattle.number.specs.declared.NumberRefusal.the-variants as refusal
-use Rattle.number.specs.declared.NumberAnswer.{NumberAnswer}
-use Rattle.number.specs.declared.NumberAnswer.the-variants as answer
-use Rattle.number.specs.declared.NumberRecord.{NumberRecord}
-use Rattle.number.specs.declared.NumberResult.{NumberResult}
-use Rattle.number.specs.Number.{Verdict, new, repeat, lost, refused, Outcome, difference, judged, verdictFor, outcome, receiving}
-use Rattle.number.specs.Answers.{numberOf, verdictOf, outcomeOf}
+use borrow.Author.Tests.{lt-ltb, le-ltb, le-leb, lt-leb}
+use Rattle.number.specs.Number.{Verdict, refused, Outcome, difference, judged, within, verdictFor, outcome, receiving}
 
-pub shifted : (n : ℕ) → n ≤ 7 → 1 * 2 ^ n % 2 ^ 8 ≡ 2 ^ n
-shifted n h = rw one-mul (mod-eq-of-lt (pow-lt {i = n} {j = 8} (omega arith)))
+module _ (lo hi x : ℕ) where
+  pub inside : lo ≤ x → x ≤ hi → within lo hi x ≡ true
+  inside l h = rw (le-leb lo x l, le-leb x hi h)
 
--- ---- the rule, question by question
+  outside : x < lo ⊎ hi < x → within lo hi x ≡ false
+  outside (inl h) = rw (lt-leb lo x h)
+  outside (inr h) = rw (lt-leb x hi h, and-false)
 
-module _ (n c b : ℕ) where
-  by-verdict : {v : Verdict} → verdictFor n c b ≡ v → outcome n c v ≡ receiving n c b
+module _ (n w c b : ℕ) where
+  by-verdict : {v : Verdict} → verdictFor n w c b ≡ v → outcome n w c v ≡ receiving n w c b
   unfolding receiving
-  by-verdict e = sym (ap (outcome n c) e)
+  by-verdict e = sym (ap (outcome n w c) e)
 
-  pub small-modulus : n < 1 → outcome n c (refused 41) ≡ receiving n c b
+  pub bad-modulus : n < 1 ⊎ 7 < n → outcome n w c (refused 41) ≡ receiving n w c b
   unfolding verdictFor
-  small-modulus h = by-verdict (rw (lt-leb 1 n h))
+  bad-modulus h = by-verdict (rw (outside 1 7 n h))
 
-  module _ (least : 1 ≤ n) where
-    pub great-modulus : 7 < n → outcome n c (refused 41) ≡ receiving n c b
+  module _ (n-from : 1 ≤ n) (n-to : n ≤ 7) where
+    modulus : within 1 7 n ≡ true
+    modulus = inside 1 7 n n-from n-to
+
+    pub bad-window : w < 1 ⊎ 2 ^ n - 1 < w → outcome n w c (refused 51) ≡ receiving n w c b
     unfolding verdictFor
-    great-modulus h = by-verdict (rw (le-leb 1 n least, lt-leb n 7 h))
+    bad-window h = by-verdict (rw (modulus, outside 1 (2 ^ n - 1) w h))
 
-    module _ (most : n ≤ 7) where
-      pub bad-awaited : 2 ^ n ≤ c → outcome n c (refused 42) ≡ receiving n c b
+    module _ (w-from : 1 ≤ w) (w-to : w < 2 ^ n) where
+      window : within 1 (2 ^ n - 1) w ≡ true
+      window = inside 1 (2 ^ n - 1) w w-from (omega arith)
+
+      pub bad-awaited : 2 ^ n ≤ c → outcome n w c (refused 42) ≡ receiving n w c b
       unfolding verdictFor
-      bad-awaited h = by-verdict (rw (le-leb 1 n least, le-leb n 7 most, le-ltb c (2 ^ n) h))
+      bad-awaited h = by-verdict (rw (modulus, window, le-ltb c (2 ^ n) h))
 
       module _ (awaited : c < 2 ^ n) where
-        pub bad-received : 2 ^ n ≤ b → outcome n c (refused 43) ≡ receiving n c b
+        pub bad-received : 2 ^ n ≤ b → outcome n w c (refused 43) ≡ receiving n w c b
         unfolding verdictFor
-        bad-received h = by-verdict (rw (le-leb 1 n least, le-leb n 7 most, lt-ltb c (2 ^ n) awaited, le-ltb b (2 ^ n) h))
+        bad-received h = by-verdict (rw (modulus, window, lt-ltb c (2 ^ n) awaited, le-ltb b (2 ^ n) h))
 
-        module _ (received : b < 2 ^ n) where
-          asked : verdictFor n c b ≡ judged (2 ^ n) (difference (2 ^ n) c b)
-          unfolding verdictFor
-          asked = rw (le-leb 1 n least, le-leb n 7 most, lt-ltb c (2 ^ n) awaited, lt-ltb b (2 ^ n) received)
-
-          pub is-new : difference (2 ^ n) c b ≡ 0 → outcome n c new ≡ receiving n c b
-          is-new h = by-verdict (asked ∙ rw (eq-eqb (difference (2 ^ n) c b) 0 h))
-
-          pub is-repeat : (difference (2 ^ n) c b ≡ 0 → ⊥) → difference (2 ^ n) c b ≤ 2 ^ n / 2 → outcome n c repeat ≡ receiving n c b
-          is-repeat h k = by-verdict (asked ∙ rw (ne-eqb (difference (2 ^ n) c b) 0 h, le-leb (difference (2 ^ n) c b) (2 ^ n / 2) k))
-
-          pub is-lost : (difference (2 ^ n) c b ≡ 0 → ⊥) → 2 ^ n / 2 < difference (2 ^ n) c b → outcome n c lost ≡ receiving n c b
-          is-lost h k = by-verdict (asked ∙ rw (ne-eqb (difference (2 ^ n) c b) 0 h, lt-leb (difference (2 ^ n) c b) (2 ^ n / 2) k))
-
--- ---- the outcome tells every answer and record apart
-
-numberOf-injective : (x y : NumberRefusal) → numberOf x ≡ numberOf y → x ≡ y
-numberOf-injective refusal.Modulus refusal.Modulus e = refl
-numberOf-injective refusal.Modulus refusal.Awaited e = absurd (omega arith)
-numberOf-injective refusal.Modulus refusal.Received e = absurd (omega arith)
-numberOf-injective refusal.Awaited refusal.Modulus e = absurd (omega arith)
-numberOf-injective refusal.Awaited refusal.Awaited e = refl
-numberOf-injective refusal.Awaited refusal.Received e = absurd (omega arith)
-numberOf-injective refusal.Received refusal.Modulus e = absurd (omega arith)
-numberOf-injective refusal.Received refusal.Awaited e = absurd (omega arith)
-numberOf-injective refusal.Received refusal.Received e = refl
-
-verdictOf-injective : (x y : NumberAnswer) → verdictOf x ≡ verdictOf y → x ≡ y
-verdictOf-injective answer.New answer.New e = refl
-verdictOf-injective answer.New answer.Repeat e = cc
-verdictOf-injective answer.New answer.Lost e = cc
-verdictOf-injective answer.New (answer.Refused y) e = cc
-verdictOf-injective answer.Repeat answer.New e = cc
-verdictOf-injective answer.Repeat answer.Repeat e = refl
-verdictOf-injective answer.Repeat answer.Lost e = cc
-verdictOf-injective answer.Repeat (answer.Refused y) e = cc
-verdictOf-injective answer.Lost answer.New e = cc
-verdictOf-injective answer.Lost answer.Repeat e = cc
-verdictOf-injective answer.Lost answer.Lost e = refl
-verdictOf-injective answer.Lost (answer.Refused y) e = cc
-verdictOf-injective (answer.Refused x) answer.New e = cc
-verdictOf-injective (answer.Refused x) answer.Repeat e = cc
-verdictOf-injective (answer.Refused x) answer.Lost e = cc
-verdictOf-injective (answer.Refused x) (answer.Refused y) e =
-    let n : numberOf x ≡ numberOf y = cc in
-    ap answer.Refused (numberOf-injective x y n)
-
-pub outcomeOf-injective : (r s : NumberResult) → outcomeOf r ≡ outcomeOf s → r ≡ s
-outcomeOf-injective r s e =
-    ap₂ (λ (x : NumberAnswer) (y : NumberRecord). record { answer = x; after = y })
-    (verdictOf-injective (r .answer) (s .answer) (ap (λ (o : Outcome). o .verdict) e))
-    (ap (λ (o : Outcome). record { n = o .n; c = o .c }) e)
+        pub all-right : {d : ℕ} {o : Outcome} → b < 2 ^ n → d ≡ difference (2 ^ n) c b → o ≡ outcome n w c (judged w d)
+            → o ≡ receiving n w c b
+        unfolding verdictFor
+        all-right h e f = f ∙ rw e (by-verdict (rw (modulus, window, lt-ltb c (2 ^ n) awaited, lt-ltb b (2 ^ n) h)))

@@ -3,7 +3,7 @@ use mathlib.Core.Path.{_≡_, sym, ap, _∙_}
 use Prim.Native.Nat.{ℕ, _+_, _-_, _*_, _/_, _%_, _^_, _≤_, _<_}
 use native.Mathlib.Nat.{mod-lt, mod-eq-of-lt, mod-add-mod, add-mod-mod, add-mul-mod-self-right, div-add-mod', add-mul, one-mul}
 use native.Mathlib.Omega.{arith}
-use lib.Pow.{mod-mod-pow, pow-pos}
+use lib.Pow.{mod-mod-pow, pow-pos, pow-lt}
 use Rattle.number.specs.Number.{difference, Residue}
 
 -- b and m − b modulo m are a multiple of m
@@ -38,3 +38,7 @@ wrapped n c b s h e =
           add-mod-mod b s (2 ^ n) ∙ ap (λ z. z % 2 ^ n) f ∙ sym (mod-mod-pow (s + b) (8 - n) n)
           ∙ ap (λ z. (s + b) % 2 ^ z % 2 ^ n) w ∙ ap (λ z. z % 2 ^ n) e;
     })
+
+-- 2^n fits a byte
+pub shifted : (n : ℕ) → n ≤ 7 → 1 * 2 ^ n % 2 ^ 8 ≡ 2 ^ n
+shifted n h = rw one-mul (mod-eq-of-lt (pow-lt {i = n} {j = 8} (omega arith)))

@@ -9,6 +9,7 @@ use Rattle.number.specs.Number.{Verdict, new, repeat, lost, refused, Out
 
 abbrev pub numberOf : NumberRefusal → ℕ
 numberOf refusal.Modulus = 41
+numberOf refusal.Window = 51
 numberOf refusal.Awaited = 42
 numberOf refusal.Received = 43
 
@@ -19,4 +20,4 @@ verdictOf answer.Lost = lost
 verdictOf (answer.Refused r) = refused (numberOf r)
 
 abbrev pub outcomeOf : NumberResult → Outcome
-outcomeOf r = record { verdict = verdictOf (r .answer); n = r .after .n; c = r .after .c }
+outcomeOf r = record { verdict = verdictOf (r .answer); n = r .after .n; w = r .after .w; c = r .after .c }

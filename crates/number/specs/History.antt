@@ -8,9 +8,9 @@ use Rattle.number.specs.Number.{Verdict, new, repeat, lost, refused, Out
 use Rattle.number.specs.Answers.{outcomeOf}
 
 -- the rule's outcome at every step, each from the record that the step before left
-unfoldable pub history : ℕ → ℕ → List ℕ → List Outcome
-history n c [] = []
-history n c (b ∷ bs) = receiving n c b ∷ history n (receiving n c b .c) bs
+unfoldable pub history : ℕ → ℕ → ℕ → List ℕ → List Outcome
+history n w c [] = []
+history n w c (b ∷ bs) = receiving n w c b ∷ history n w (receiving n w c b .c) bs
 
 -- how many of the outcomes are new
 abbrev pub isNew : Verdict → ℕ
@@ -32,4 +32,4 @@ inSequence n c (suc k) = c ∷ inSequence n ((c + 1) % 2 ^ n) k
 pub data Calls : NumberRecord → List ℕ → List NumberResult → Type 0 where
   none : {held : NumberRecord} → Calls held [] []
   call : {held : NumberRecord} {bs : List ℕ} {rs : List NumberResult} (b : ℕ) (r : NumberResult)
-      → outcomeOf r ≡ receiving (held .n) (held .c) b → Calls (r .after) bs rs → Calls held (b ∷ bs) (r ∷ rs)
+      → outcomeOf r ≡ receiving (held .n) (held .w) (held .c) b → Calls (r .after) bs rs → Calls held (b ∷ bs) (r ∷ rs)

@@ -1,3 +1,4 @@
 pub mod Number
 pub mod Answers
 pub mod History
+pub mod Window

@@ -1,19 +1,23 @@
 // The number check: whether a received block or frame is new, a repeat, or shows that blocks were lost (003 section 3).
-// `receive` takes every record and number; a bad one is refused with document 01's 41, 42 or 43 and the record stays.
+// `receive` takes every record and number; a bad one is refused with document 01's 41, 51, 42 or 43 and the record stays.
 ghost use mathlib.Core.Path.{_≡_};
-ghost use Prim.Native.Nat.{_^_, _≤_};
-ghost use Rattle.number.specs.Number.{difference, outcome, receiving, refused};
+ghost use Prim.Native.Nat.{_^_, _≤_, _<_};
+ghost use Rattle.number.specs.Number.{difference, judged, outcome, receiving, refused};
 ghost use Rattle.number.specs.Answers.{numberOf, outcomeOf};
 
-// What a receiving station keeps: sequence numbers run modulo 2^n, and c is the number that it awaits.
+// What a receiving station keeps: sequence numbers run modulo 2^n, w is the link's window, the most blocks that the far station has
+// on the way, and c is the number that is awaited.
 pub struct NumberRecord {
     pub n: u8,
+    pub w: u8,
     pub c: u8,
 }
 
 pub enum NumberRefusal {
     // 41: n is not from 1 to 7
     Modulus,
+    // 51: the window is not from 1 to the modulus less 1
+    Window,
     // 42: the awaited number is not below the modulus
     Awaited,
     // 43: the received number is not below the modulus
@@ -49,7 +53,7 @@ fn wrapped_difference(n: u8, c: u8, b: u8) -> u8
 }
 
 fn refused(held: NumberRecord, refusal: NumberRefusal) -> NumberResult
-    ensures { λ r. ⌜ outcomeOf r ≡ outcome (held .n) (held .c) (refused (numberOf refusal)) ⌝ }
+    ensures { λ r. ⌜ outcomeOf r ≡ outcome (held .n) (held .w) (held .c) (refused (numberOf refusal)) ⌝ }
 {
     NumberResult {
         answer: NumberAnswer::Refused(refusal),
@@ -57,33 +61,26 @@ fn refused(held: NumberRecord, refusal: NumberRefusal) -> NumberResult
     }
 }
 
-// Document 01, part 5: the received number judged against the awaited one, and the record after it.
-pub fn receive(held: NumberRecord, number: u8) -> NumberResult
-    ensures { λ r. ⌜ outcomeOf r ≡ receiving (held .n) (held .c) number ⌝ }
+// d = 0: new, and c moves on; d from 1 to w: a repeat; a larger d: lost.
+fn judge(held: NumberRecord, m: u8, d: u8) -> NumberResult
+    requires { ⌜ m ≡ 2 ^ (held .n) ⌝ }
+    requires { ⌜ held .c < m ⌝ }
+    ensures { λ r. ⌜ outcomeOf r ≡ outcome (held .n) (held .w) (held .c) (judged (held .w) d) ⌝ }
 {
     let n = held.n;
+    let w = held.w;
     let c = held.c;
-    if n < 1 {
-        return refused(held, NumberRefusal::Modulus);
-    }
-    if 7 < n {
-        return refused(held, NumberRefusal::Modulus);
-    }
-    let m = modulus(n);
-    if m <= c {
-        return refused(held, NumberRefusal::Awaited);
-    }
-    if m <= number {
-        return refused(held, NumberRefusal::Received);
-    }
-    let d = wrapped_difference(n, c, number);
     if d == 0 {
         return NumberResult {
             answer: NumberAnswer::New,
-            after: NumberRecord { n, c: (c + 1) % m },
+            after: NumberRecord {
+                n,
+                w,
+                c: (c + 1) % m,
+            },
         };
     }
-    if d <= m / 2 {
+    if d <= w {
         return NumberResult {
             answer: NumberAnswer::Repeat,
             after: held,
@@ -93,4 +90,27 @@ pub fn receive(held: NumberRecord, number: u8) -> NumberResult
         answer: NumberAnswer::Lost,
         after: held,
     }
+}
+
+// Document 01, part 5, and document 02, card 2: the received number judged against the awaited one, and the record after it.
+pub fn receive(held: NumberRecord, number: u8) -> NumberResult
+    ensures { λ r. ⌜ outcomeOf r ≡ receiving (held .n) (held .w) (held .c) number ⌝ }
+{
+    let n = held.n;
+    let w = held.w;
+    let c = held.c;
+    if n < 1 || 7 < n {
+        return refused(held, NumberRefusal::Modulus);
+    }
+    let m = modulus(n);
+    if w < 1 || m <= w {
+        return refused(held, NumberRefusal::Window);
+    }
+    if m <= c {
+        return refused(held, NumberRefusal::Awaited);
+    }
+    if m <= number {
+        return refused(held, NumberRefusal::Received);
+    }
+    judge(held, m, wrapped_difference(n, c, number))
 }

@@ -1,5 +1,6 @@
 //! An independent implementation of the corridor line, written from the
-//! rules alone: GOST 28082-89 and the project's scope (document 01).
+//! rules alone: GOST 28082-89, the project's scope (document 01) and its
+//! changes (document 02).
 //!
 //! It shares no code and no method with the library it is compared to. Checks
 //! are divisions of polynomials as the appendices print them, a block is read

@@ -1,7 +1,7 @@
 -- `modulus` meets its contract: 2^n fits a byte. Assumes nothing.
 use native.Mathlib.Omega.{arith}
 use borrow.Author.Needs.{needs}
-use Rattle.number.proofs.Outcomes.{shifted}
+use Rattle.number.proofs.Residues.{shifted}
 use Rattle.number.proofs.modulus.Statement.{statement}
 use Rattle.number.proofs.modulus.Tie as tie
 

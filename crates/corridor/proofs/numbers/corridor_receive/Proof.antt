@@ -13,7 +13,7 @@ returns : tie.Need-returns
 returns c =
     let at = c .before .before in
     let a = at .before .args in
-    received (a .n) (a .c) (a .number) (at .receive .result) (at .receive .ensures) (c .before .received .ensures)
+    received (a .n) (a .w) (a .c) (a .number) (at .receive .result) (at .receive .ensures) (c .before .received .ensures)
 
 pub corridor-receive-spec : {M : Type 1} → statement M
 corridor-receive-spec =
