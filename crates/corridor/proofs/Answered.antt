@@ -1,7 +1,7 @@
 -- What a C call answers in numbers is what the rules answer, since the call below answers by the rules. Assumes nothing.
 use mathlib.Core.Path.{_≡_, ap}
 use Prim.Native.Nat.{ℕ}
-use mathlib.Core.List.{List, [], _∷_}
+use mathlib.Core.List.{List}
 use Rattle.bits.specs.Calls as rule
 use Rattle.block.specs.Answers as block
 use Rattle.frame.specs.Answers as frame
