@@ -14,7 +14,7 @@ use Rattle.bits.specs.Calls.{called}
 use Rattle.bits.proofs.Packing.{length-pack}
 use Rattle.cyclic.specs.Check.{Parameters, checkBits}
 use Rattle.frame.specs.declared.FrameMethod.{FrameMethod}
-use Rattle.frame_reader.specs.declared.Framing.{Framing}
+use Rattle.frame_reader.specs.declared.Body.{Body}
 use Rattle.frame.specs.declared.ReadRefusal.{ReadRefusal}
 use Rattle.frame_reader.specs.declared.WalkEnd.{WalkEnd}
 use Rattle.frame_reader.specs.declared.WalkEnd.the-variants as code
@@ -88,7 +88,7 @@ framed-found method lent told within (rule.found s) q {end} {count} e =
     }
 
 module _ (method : FrameMethod) (lent : List ℕ) (told : ℕ) {w : WalkEnd} (walked : ofWalk w ≡ answer (parametersOf method) lent told) where
-  pub framing-found : {f : Framing} → w ≡ code.Found f → FramingFound method lent told (f .end) (f .count)
+  pub framing-found : {f : Body} → w ≡ code.Found f → FramingFound method lent told (f .end) (f .count)
   framing-found {f} e = go (leb told (8 * length lent)) refl (sym (ap ofWalk e) ∙ walked)
     where
       go : (t : Bool) → leb told (8 * length lent) ≡ t

@@ -21,7 +21,7 @@ pub(crate) fn low_byte(x: u32) -> u8
 }
 
 // The bit at a place.
-pub fn bit_at(lent: &[u8], at: usize) -> bool
+pub(crate) fn bit_at(lent: &[u8], at: usize) -> bool
     requires { ⌜ at < 8 * length (now lent) ⌝ }
     ensures { λ r. ⌜ r ≡ getD (bitsOf (now (lent .entry))) at false ⌝ }
 {
@@ -29,7 +29,7 @@ pub fn bit_at(lent: &[u8], at: usize) -> bool
 }
 
 // A byte of k bits so far, with one more.
-pub fn with_bit(byte: u8, k: usize, bit: bool) -> u8
+pub(crate) fn with_bit(byte: u8, k: usize, bit: bool) -> u8
     requires { ⌜ (byte < 2 ^ k) × (k < 8) ⌝ }
     ensures { λ r. ⌜ r ≡ byte + cond bit (2 ^ k) 0 ⌝ }
 {
@@ -37,7 +37,7 @@ pub fn with_bit(byte: u8, k: usize, bit: bool) -> u8
 }
 
 // The bits that a byte of the line gives, behind those that are pending.
-pub fn read_bits(r: LineReader, byte: u8, got: ReceivedByte) -> ByteRead
+pub(crate) fn read_bits(r: LineReader, byte: u8, got: ReceivedByte) -> ByteRead
     requires { ⌜ ReaderFits r × (got .zeros ≤ 2) × (got .bits < 2 ^ (8 - got .zeros)) × (r .index + 1 < 2 ^ 64) ⌝ }
     ensures { λ x. ⌜ ReadsOn r byte got x ⌝ }
 {
@@ -69,7 +69,7 @@ pub fn read_bits(r: LineReader, byte: u8, got: ReceivedByte) -> ByteRead
 }
 
 // The first n bytes, at the start of the output. The check stands behind them.
-pub fn hand_out(lent: &[u8], end: usize, n: usize, out: &mut [u8])
+pub(crate) fn hand_out(lent: &[u8], end: usize, n: usize, out: &mut [u8])
     requires { ⌜ (end ≤ 8 * length (now lent)) × (8 * n + 16 ≤ length (dataBetween (bitsOf (now lent)) end)) × (n ≤ length (now out)) ⌝ }
     ensures { λ _. ⌜ now (out .exit) ≡ sets (now (out .entry)) 0 (packInto n (dataBetween (bitsOf (now (lent .entry))) end)) ⌝ }
 {
@@ -96,7 +96,7 @@ pub fn hand_out(lent: &[u8], end: usize, n: usize, out: &mut [u8])
 }
 
 // The bits of the line behind its whole bytes, before the place `end`.
-pub fn read_rest(lent: &[u8], end: usize, r: LineReader) -> Rest
+pub(crate) fn read_rest(lent: &[u8], end: usize, r: LineReader) -> Rest
     requires { ⌜ ReaderFits r × (8 * r .index ≤ end) × (end < 8 * r .index + 8) × (end ≤ 8 * length (now lent)) ⌝ }
     ensures { λ x. ⌜ ofRest x ≡ leftAt (bitsOf (now (lent .entry))) end r × RestFits x ⌝ }
 {

@@ -35,7 +35,7 @@ fn last16(table: &[u16; 256], register: u16, count: usize, rest: Rest) -> Judged
     }
 }
 
-pub fn judge16(table: &[u16; 256], start: u16, lent: &[u8], end: usize) -> Judged
+pub(crate) fn judge16(table: &[u16; 256], start: u16, lent: &[u8], end: usize) -> Judged
     requires { ⌜ (8 ≤ end) × (end ≤ 8 * length (now lent)) × (end + 8 < 2 ^ 64) ⌝ }
     ensures { λ r. ⌜ (ofJudged r ≡ judged (now (table .entry)) start 0 (unstuff 0 8 (slice 8 end (bitsOf (now (lent .entry)))))) × RegisterBelow 65536 r ⌝ }
 {
@@ -85,7 +85,7 @@ fn last32(table: &[u32; 256], register: u32, count: usize, rest: Rest) -> Judged
     }
 }
 
-pub fn judge32(table: &[u32; 256], start: u32, lent: &[u8], end: usize) -> Judged
+pub(crate) fn judge32(table: &[u32; 256], start: u32, lent: &[u8], end: usize) -> Judged
     requires { ⌜ (8 ≤ end) × (end ≤ 8 * length (now lent)) × (end + 8 < 2 ^ 64) ⌝ }
     ensures { λ r. ⌜ (ofJudged r ≡ judged (now (table .entry)) start 0 (unstuff 0 8 (slice 8 end (bitsOf (now (lent .entry)))))) × RegisterBelow 4294967296 r ⌝ }
 {

@@ -5,7 +5,7 @@ use frame::ReadRefusal;
 
 // The byte of the line that is read next, the last five bits before it, and the bits of content and check that make no byte yet:
 // `pending` bits, held in a number.
-pub struct LineReader {
+pub(crate) struct LineReader {
     pub index: usize,
     pub before: u32,
     pub held: u32,
@@ -13,34 +13,34 @@ pub struct LineReader {
 }
 
 // The byte of content or check that a byte of the line makes whole, where it does, and the reader after it.
-pub struct ByteRead {
+pub(crate) struct ByteRead {
     pub byte: u8,
     pub whole: bool,
     pub next: LineReader,
 }
 
 // The bits that the last bits of the line leave, behind those that were pending; or the place where a zero is missing.
-pub enum Rest {
+pub(crate) enum Rest {
     Bits(u32, u32),
     Missing(BitPlace),
 }
 
 // How a walk with the check ended: how many bits content and check have, and the register after their whole bytes.
-pub enum Judged {
+pub(crate) enum Judged {
     Sound(usize, u32),
     Missing(BitPlace),
 }
 
 // What the walk hands on: the place of the closing flag, how many bits content and check have, and whether the check is right.
-pub struct Framing {
+pub(crate) struct Body {
     pub end: usize,
     pub count: usize,
     pub right: bool,
 }
 
 // How a walk ended.
-pub enum WalkEnd {
-    Found(Framing),
+pub(crate) enum WalkEnd {
+    Found(Body),
     Refused(ReadRefusal),
 }
 

@@ -1,5 +1,5 @@
 // The walk over the bits of a frame: questions 31 to 37.
-use crate::Framing;
+use crate::Body;
 use crate::Judged;
 use crate::WalkEnd;
 use crate::data::bit_at;
@@ -47,7 +47,7 @@ fn walk_end(j: Judged, end: usize, remainder: u32) -> WalkEnd
     ensures { λ r. ⌜ r ≡ walkEnd end remainder j ⌝ }
 {
     match j {
-        Judged::Sound(count, register) => WalkEnd::Found(Framing {
+        Judged::Sound(count, register) => WalkEnd::Found(Body {
             end,
             count,
             right: register == remainder,
@@ -101,7 +101,7 @@ fn walk_closed(m: FrameMethod, lent: &[u8], end: usize) -> WalkEnd
 }
 
 // Questions 31 to 36.
-pub fn find_framing(m: FrameMethod, told: usize, lent: &[u8]) -> WalkEnd
+pub(crate) fn find_framing(m: FrameMethod, told: usize, lent: &[u8]) -> WalkEnd
     ensures { λ r. ⌜ (ofWalk r ≡ cond (leb told (8 * length (now (lent .entry)))) (framedAnswer (told - 8) (framed (parametersOf m) (take told (bitsOf (now (lent .entry)))))) (unframed 31 0)) × ChecksRight (parametersOf m) (now (lent .entry)) r ⌝ }
 {
     // 8 times the length may not fit.

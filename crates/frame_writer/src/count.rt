@@ -27,7 +27,7 @@ fn count_zeros(start: ZeroCount, bytes: &[u8]) -> ZeroCount
 }
 
 // The bytes that content and check take between their flags, with the flags.
-pub fn frame_bytes(content: &[u8], check: &[u8]) -> usize
+pub(crate) fn frame_bytes(content: &[u8], check: &[u8]) -> usize
     requires { ⌜ (length (now content) ≤ 65536) × (length (now check) ≤ 4) ⌝ }
     ensures { λ r. ⌜ r ≡ bytesFor (length (enclose (bitsOf (now (content .entry)) ++ bitsOf (now (check .entry))))) ⌝ }
 {

@@ -48,7 +48,7 @@ fn put_byte(out: &mut [u8], w: BitWriter, byte: u8) -> BitWriter
     }
 }
 
-pub fn put_bytes(out: &mut [u8], start: BitWriter, bytes: &[u8]) -> BitWriter
+pub(crate) fn put_bytes(out: &mut [u8], start: BitWriter, bytes: &[u8]) -> BitWriter
     requires { ⌜ Fits start × (position start + length (stuff (runBefore (start .before)) (bitsOf (now bytes))) ≤ 8 * length (now out)) ⌝ }
     ensures { λ r. ⌜ Puts (now (out .entry)) start (bitsOf (now (bytes .entry))) (now (out .exit)) r ⌝ }
 {
@@ -62,7 +62,7 @@ pub fn put_bytes(out: &mut [u8], start: BitWriter, bytes: &[u8]) -> BitWriter
 }
 
 // The closing flag goes in as it is. The bits of the frame.
-pub fn put_flag(out: &mut [u8], w: BitWriter) -> usize
+pub(crate) fn put_flag(out: &mut [u8], w: BitWriter) -> usize
     requires { ⌜ Fits w × (position w + 8 ≤ 8 * length (now out)) × (position w + 8 < 2 ^ 64) ⌝ }
     ensures { λ r. ⌜ (r ≡ position w + 8) × (now (out .exit) ≡ stored (now (out .entry)) w flag) ⌝ }
 {
