@@ -6,7 +6,7 @@ use mathlib.Core.List.{List, _∷_}
 use lib.Dec.{eqb}
 use borrow.Author.Tests.{eqb-true}
 use Rattle.bits.specs.Differences.{consIf}
-use Rattle.block.specs.Signs.{SOH, STX, ETX, DLE, SYN, ETB, US, Sign, soh, stx, etx, dle, syn, etb, us, other, signOf, isSyn, isDle}
+use Rattle.block.specs.Signs.{SOH, STX, ETX, DLE, SYN, ETB, US, Sign, soh, stx, etx, dle, syn, etb, us, signOf, isSyn, isDle}
 use Rattle.block.specs.Characters.{character}
 use Rattle.block_framing.specs.Framings.{isKept, nextBehind, keptBytes}
 

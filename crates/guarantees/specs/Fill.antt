@@ -1,7 +1,7 @@
 -- A line without its fill signs (document 01, part 3; document 02, card 1): SYN ahead of the start, in header and in plain text,
 -- DLE SYN in clear text. Assumes nothing.
 use Prim.Native.Nat.{ℕ}
-use mathlib.Core.Bool.{Bool, true, false, not, _&&_}
+use mathlib.Core.Bool.{Bool, false, not, _&&_}
 use mathlib.Core.List.{List, [], _∷_}
 use Rattle.bits.specs.Differences.{consIf}
 use Rattle.block.specs.declared.Method.{Method}
