@@ -12,6 +12,7 @@ use Rattle.bits.specs.Strings.{same}
 use Rattle.bits.specs.Bytes.{bitsOf, bytesFor, packInto, pack}
 use Rattle.bits.specs.Calls.{called}
 use Rattle.bits.proofs.Packing.{length-pack}
+use Rattle.bits.proofs.Tests.{ask-passed}
 use Rattle.cyclic.specs.Check.{Parameters, checkBits}
 use Rattle.frame.specs.declared.FrameMethod.{FrameMethod}
 use Rattle.frame_reader.specs.declared.Body.{Body}
@@ -20,7 +21,7 @@ use Rattle.frame_reader.specs.declared.WalkEnd.{WalkEnd}
 use Rattle.frame_reader.specs.declared.WalkEnd.the-variants as code
 use Rattle.frame.specs.Stuffing.{Unstuffed, clean, missing, unstuff}
 use Rattle.frame.specs.Frame.{parametersOf, width, flag}
-use Rattle.frame.specs.Read.{Framed, ask, askZeros, between, framed, contentOf, checkIn, ReadAnswer, taken, refusal, askCheck, readBits, readFrame, readOutput}
+use Rattle.frame.specs.Read.{Framed, askZeros, between, framed, contentOf, checkIn, ReadAnswer, taken, refusal, askCheck, readBits, readFrame, readOutput}
 use Rattle.frame.specs.Read as rule
 use Rattle.frame.specs.Answers.{content, refused, readNumber, readValue, afterReading}
 use Rattle.frame_reader.specs.Steps.{dataOf, dataBetween, found, unframed, ofWalk, framedAnswer}
@@ -29,10 +30,8 @@ use Rattle.frame_reader.proofs.Questions.{sizes, answer, told-length, a
 
 -- ---- a framing that was found
 
--- a question that was passed
-ask-passed : (b : Bool) (number value : ℕ) (next : Framed) (s : List Bool) → ask b number value next ≡ rule.found s → (b ≡ true) × (next ≡ rule.found s)
-ask-passed true number value next s e = (refl, e)
-ask-passed false number value next s e = absurd (let z : _≡_ {A = ℕ} 0 1 = cc in omega arith)
+not-found : {n v : ℕ} {s : List Bool} → rule.unframed n v ≡ rule.found s → ⊥
+not-found {n} {v} {s} e = let z : _≡_ {A = ℕ} 0 1 = cc in omega arith
 
 zeros-passed : (m : Parameters) (u : Unstuffed) (s : List Bool) → askZeros m u ≡ rule.found s
     → (s ≡ dataOf u) × (length s % 8 ≡ 0) × (8 + width m ≤ length s)
@@ -42,9 +41,9 @@ zeros-passed m (clean t) s e =
     let k = length t in
     let content = leb (8 + width m) k in
     let within = leb k (8 * m .limit + width m) in
-    let p = ask-passed (eqb (k % 8) 0) 34 0 (ask content 35 0 (ask within 36 0 (rule.found t))) s e in
-    let q = ask-passed content 35 0 (ask within 36 0 (rule.found t)) s (p .1) in
-    let r = ask-passed within 36 0 (rule.found t) s (q .1) .1 in
+    let p = ask-passed (eqb (k % 8) 0) not-found e in
+    let q = ask-passed content not-found (p .1) in
+    let r = ask-passed within not-found (q .1) .1 in
     let z : s ≡ t = cc in
     (z, ap (λ x. length x % 8) z ∙ eqb-true (k % 8) 0 (p .0), omega (arith, ap length z, leb-true (8 + width m) k (q .0)))
 
@@ -69,9 +68,9 @@ framed-found method lent told within (rule.found s) q {end} {count} e =
     let opening = same (take 8 frame) flag in
     let closing = same (drop (length frame - 8) frame) flag in
     let u = unstuff 0 8 (between frame) in
-    let a = ask-passed (leb 16 (length frame)) 32 0 (ask opening 32 0 (ask closing 32 0 (askZeros m u))) s q in
-    let b = ask-passed opening 32 0 (ask closing 32 0 (askZeros m u)) s (a .1) in
-    let z = zeros-passed m u s (ask-passed closing 32 0 (askZeros m u) s (b .1) .1) in
+    let a = ask-passed (leb 16 (length frame)) not-found q in
+    let b = ask-passed opening not-found (a .1) in
+    let z = zeros-passed m u s (ask-passed closing not-found (b .1) .1) in
     let sixteen : 16 ≤ told = omega (arith, leb-true 16 (length frame) (a .0)) in
     let at : end ≡ told - 8 = cc in
     let n : count ≡ length s = cc in
