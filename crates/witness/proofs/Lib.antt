@@ -1,1 +1,2 @@
 pub mod FullBlocks
+pub mod Sharp

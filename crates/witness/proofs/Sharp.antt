@@ -29,14 +29,14 @@ use Rattle.block.specs.Read.{found, framed, framingOf}
 use Rattle.frame.specs.Stuffing.{isFifth, runOn, stuff, unstuff, behindFive}
 use Rattle.frame.specs.Frame.{flag, enclose, frameOf}
 use Rattle.frame.specs.Read as frame-reading
 use Rattle.guarantees.specs.Lines.{Lines, TwoAccepted, distance, differingChecked, AcceptedHasFraming, NoBurst}
 use Rattle.guarantees.specs.Blocks.{Accepted, checkedBits, blocks}
 use Rattle.guarantees.specs.Frames as frame-lines
 use Rattle.guarantees.specs.Third.{AnyMethod, method-1, method-2, method-3, method-4, method-5, method-6, linesOf, Has16Bits}
-use Rattle.guarantees.specs.Sharp.{DifferInJust, DifferInBurst, SharpBounds}
+use Rattle.witness.specs.Sharp.{DifferInJust, DifferInBurst, SharpBounds}
 use Rattle.guarantees.proofs.Blocks.Framing.{CheckRight, accepted-right}
 use Rattle.guarantees.proofs.Frames.Framing as frame-framing
 use Rattle.guarantees.proofs.Third.{block-has-framing, frame-has-framing, third-property}
 
 -- ---- two accepted lines that differ in some bit
 
