@@ -17,6 +17,10 @@ use Rattle.codes.specs.declared.ShapeCode.{ShapeCode}
 use Rattle.codes.specs.declared.ShapeCode.the-variants as shapeCode
 use Rattle.codes.specs.declared.EndCode.{EndCode}
 use Rattle.codes.specs.declared.EndCode.the-variants as endCode
+use Rattle.codes.specs.declared.LinkCode.{LinkCode}
+use Rattle.codes.specs.declared.LinkCode.the-variants as linkCode
+use Rattle.codes.specs.declared.FormatCode.{FormatCode}
+use Rattle.codes.specs.declared.FormatCode.the-variants as formatCode
 use Rattle.codes.specs.declared.FrameMethodCode.{FrameMethodCode}
 use Rattle.codes.specs.declared.FrameMethodCode.the-variants as frameMethodCode
 
@@ -45,6 +49,24 @@ endOf code =
     cond (eqb code ETX) (endCode.Known end.Etx)
     (cond (eqb code ETB) (endCode.Known end.Etb)
     (cond (eqb code US) (endCode.Known end.Us) endCode.Unknown))
+
+-- method and parity, where both are known
+abbrev pub linkBy : MethodCode → ParityCode → LinkCode
+linkBy methodCode.Unknown p = linkCode.Unknown
+linkBy (methodCode.Known m) parityCode.Unknown = linkCode.Unknown
+linkBy (methodCode.Known m) (parityCode.Known p) = linkCode.Known m p
+
+abbrev pub linkOf : ℕ → ℕ → LinkCode
+linkOf m p = linkBy (methodOf m) (parityOf p)
+
+-- shape and end sign, where both are known
+abbrev pub formatBy : ShapeCode → EndCode → FormatCode
+formatBy shapeCode.Unknown e = formatCode.Unknown
+formatBy (shapeCode.Known s) endCode.Unknown = formatCode.Unknown
+formatBy (shapeCode.Known s) (endCode.Known e) = formatCode.Known s e
+
+abbrev pub formatOf : ℕ → ℕ → FormatCode
+formatOf s e = formatBy (shapeOf s) (endOf e)
 
 abbrev pub frameMethodOf : ℕ → FrameMethodCode
 frameMethodOf code =

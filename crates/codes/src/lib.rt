@@ -9,25 +9,37 @@ use block::Shape;
 use block::US;
 use frame::FrameMethod;
 ghost use mathlib.Core.Path.{_≡_};
-ghost use Rattle.codes.specs.Codes.{methodOf, parityOf, shapeOf, endOf, frameMethodOf};
+ghost use Rattle.codes.specs.Codes.{methodOf, parityOf, shapeOf, endOf, linkOf, formatOf, frameMethodOf};
 
-pub enum MethodCode {
+enum MethodCode {
     Known(Method),
     Unknown,
 }
 
-pub enum ParityCode {
+enum ParityCode {
     Known(Parity),
     Unknown,
 }
 
-pub enum ShapeCode {
+enum ShapeCode {
     Known(Shape),
     Unknown,
 }
 
-pub enum EndCode {
+enum EndCode {
     Known(EndSign),
+    Unknown,
+}
+
+// What a link has agreed: method and parity.
+pub enum LinkCode {
+    Known(Method, Parity),
+    Unknown,
+}
+
+// What a block to be written has: shape and end sign.
+pub enum FormatCode {
+    Known(Shape, EndSign),
     Unknown,
 }
 
@@ -36,7 +48,7 @@ pub enum FrameMethodCode {
     Unknown,
 }
 
-pub fn method_of(code: u8) -> MethodCode
+fn method_of(code: u8) -> MethodCode
     ensures { λ r. ⌜ r ≡ methodOf code ⌝ }
 {
     match code {
@@ -48,7 +60,7 @@ pub fn method_of(code: u8) -> MethodCode
     }
 }
 
-pub fn parity_of(code: u8) -> ParityCode
+fn parity_of(code: u8) -> ParityCode
     ensures { λ r. ⌜ r ≡ parityOf code ⌝ }
 {
     match code {
@@ -58,7 +70,7 @@ pub fn parity_of(code: u8) -> ParityCode
     }
 }
 
-pub fn shape_of(code: u8) -> ShapeCode
+fn shape_of(code: u8) -> ShapeCode
     ensures { λ r. ⌜ r ≡ shapeOf code ⌝ }
 {
     match code {
@@ -71,7 +83,7 @@ pub fn shape_of(code: u8) -> ShapeCode
     }
 }
 
-pub fn end_of(code: u8) -> EndCode
+fn end_of(code: u8) -> EndCode
     ensures { λ r. ⌜ r ≡ endOf code ⌝ }
 {
     match code {
@@ -80,6 +92,30 @@ pub fn end_of(code: u8) -> EndCode
         US => EndCode::Known(EndSign::Us),
         _ => EndCode::Unknown,
     }
+}
+
+pub fn link_of(method: u8, parity: u8) -> LinkCode
+    ensures { λ r. ⌜ r ≡ linkOf method parity ⌝ }
+{
+    let MethodCode::Known(m) = method_of(method) else {
+        return LinkCode::Unknown;
+    };
+    let ParityCode::Known(p) = parity_of(parity) else {
+        return LinkCode::Unknown;
+    };
+    LinkCode::Known(m, p)
+}
+
+pub fn format_of(shape: u8, end_sign: u8) -> FormatCode
+    ensures { λ r. ⌜ r ≡ formatOf shape «end_sign» ⌝ }
+{
+    let ShapeCode::Known(s) = shape_of(shape) else {
+        return FormatCode::Unknown;
+    };
+    let EndCode::Known(e) = end_of(end_sign) else {
+        return FormatCode::Unknown;
+    };
+    FormatCode::Known(s, e)
 }
 
 pub fn frame_method_of(code: u8) -> FrameMethodCode

@@ -9,17 +9,13 @@ use Rattle.number.specs.Number.{Outcome, receiving}
 use Rattle.answers.specs.declared.ValueNumbers.{ValueNumbers}
 use Rattle.answers.specs.declared.VerdictNumbers.{VerdictNumbers}
 use Rattle.answers.specs.Numbers.{readNumbers, writtenNumbers, frameNumbers, verdictNumbers}
-use Rattle.codes.specs.declared.MethodCode.{MethodCode}
-use Rattle.codes.specs.declared.MethodCode.the-variants as method
-use Rattle.codes.specs.declared.ParityCode.{ParityCode}
-use Rattle.codes.specs.declared.ParityCode.the-variants as parity
-use Rattle.codes.specs.declared.ShapeCode.{ShapeCode}
-use Rattle.codes.specs.declared.ShapeCode.the-variants as shape
-use Rattle.codes.specs.declared.EndCode.{EndCode}
-use Rattle.codes.specs.declared.EndCode.the-variants as end
+use Rattle.codes.specs.declared.LinkCode.{LinkCode}
+use Rattle.codes.specs.declared.LinkCode.the-variants as link
+use Rattle.codes.specs.declared.FormatCode.{FormatCode}
+use Rattle.codes.specs.declared.FormatCode.the-variants as format
 use Rattle.codes.specs.declared.FrameMethodCode.{FrameMethodCode}
 use Rattle.codes.specs.declared.FrameMethodCode.the-variants as frameMethod
-use Rattle.codes.specs.Codes.{methodOf, parityOf, shapeOf, endOf, frameMethodOf}
+use Rattle.codes.specs.Codes.{linkOf, formatOf, frameMethodOf}
 
 -- the number that a call returns, and the answer and the output afterwards
 pub record Call : Type 0 where
@@ -43,29 +39,25 @@ valueCall numbers output = called (numbers .number) (numbers .value ∷ []) outp
 abbrev pub afterReadingBlock : rule.Call block.Numbers → Call
 afterReadingBlock c = called (readNumbers (c .answer) .number) (readNumbers (c .answer) .values) (c .output)
 
-abbrev pub readBlockBy : MethodCode → ParityCode → List ℕ → List ℕ → Call
-readBlockBy method.Unknown p line out = unknownCode 5 out
-readBlockBy (method.Known m) parity.Unknown line out = unknownCode 5 out
-readBlockBy (method.Known m) (parity.Known p) line out = afterReadingBlock (block.readCall m p line out)
+abbrev pub readBlockBy : LinkCode → List ℕ → List ℕ → Call
+readBlockBy link.Unknown line out = unknownCode 5 out
+readBlockBy (link.Known m p) line out = afterReadingBlock (block.readCall m p line out)
 
 -- of `method`, `parity`, the line and the output
 abbrev pub readBlockCall : ℕ → ℕ → List ℕ → List ℕ → Call
-readBlockCall m p line out = readBlockBy (methodOf m) (parityOf p) line out
+readBlockCall m p line out = readBlockBy (linkOf m p) line out
 
 abbrev pub afterWritingBlock : rule.Call block.Numbers → Call
 afterWritingBlock c = valueCall (writtenNumbers (c .answer)) (c .output)
 
-abbrev pub writeBlockBy : MethodCode → ParityCode → ShapeCode → EndCode → List ℕ → List ℕ → List ℕ → Call
-writeBlockBy method.Unknown p s e header text out = unknownCode 1 out
-writeBlockBy (method.Known m) parity.Unknown s e header text out = unknownCode 1 out
-writeBlockBy (method.Known m) (parity.Known p) shape.Unknown e header text out = unknownCode 1 out
-writeBlockBy (method.Known m) (parity.Known p) (shape.Known s) end.Unknown header text out = unknownCode 1 out
-writeBlockBy (method.Known m) (parity.Known p) (shape.Known s) (end.Known e) header text out =
-    afterWritingBlock (block.writeCall m p s e header text out)
+abbrev pub writeBlockBy : LinkCode → FormatCode → List ℕ → List ℕ → List ℕ → Call
+writeBlockBy link.Unknown f header text out = unknownCode 1 out
+writeBlockBy (link.Known m p) format.Unknown header text out = unknownCode 1 out
+writeBlockBy (link.Known m p) (format.Known s e) header text out = afterWritingBlock (block.writeCall m p s e header text out)
 
 -- of `method`, `parity`, `shape`, `end_sign`, header, text and the output
 abbrev pub writeBlockCall : ℕ → ℕ → ℕ → ℕ → List ℕ → List ℕ → List ℕ → Call
-writeBlockCall m p s e header text out = writeBlockBy (methodOf m) (parityOf p) (shapeOf s) (endOf e) header text out
+writeBlockCall m p s e header text out = writeBlockBy (linkOf m p) (formatOf s e) header text out
 
 -- ---- frames
 

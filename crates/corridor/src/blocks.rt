@@ -4,14 +4,10 @@ use answers::block_read;
 use answers::block_written;
 use block_reader::read_block;
 use block_writer::write_block;
-use codes::EndCode;
-use codes::MethodCode;
-use codes::ParityCode;
-use codes::ShapeCode;
-use codes::end_of;
-use codes::method_of;
-use codes::parity_of;
-use codes::shape_of;
+use codes::FormatCode;
+use codes::LinkCode;
+use codes::format_of;
+use codes::link_of;
 ghost use mathlib.Core.Path.{_≡_};
 ghost use mathlib.Core.List.{[], _∷_};
 ghost use Rattle.corridor.specs.Calls.{called, readBlockCall, writeBlockCall};
@@ -29,10 +25,7 @@ pub extern "C" fn corridor_read_block(
     ensures { λ r. ⌜ called r (now (answer .exit)) (now (out .exit)) ≡ readBlockCall method parity (now (line .entry)) (now (out .entry)) ⌝ }
 {
     *answer = [0; 5];
-    let MethodCode::Known(m) = method_of(method) else {
-        return UNKNOWN_CODE;
-    };
-    let ParityCode::Known(p) = parity_of(parity) else {
+    let LinkCode::Known(m, p) = link_of(method, parity) else {
         return UNKNOWN_CODE;
     };
     let read = block_read(read_block(m, p, line, &mut *out));
@@ -56,16 +49,10 @@ pub extern "C" fn corridor_write_block(
     ensures { λ r. ⌜ called r (now (value .exit) ∷ []) (now (out .exit)) ≡ writeBlockCall method parity shape «end_sign» (now (header .entry)) (now (text .entry)) (now (out .entry)) ⌝ }
 {
     *value = 0;
-    let MethodCode::Known(m) = method_of(method) else {
+    let LinkCode::Known(m, p) = link_of(method, parity) else {
         return UNKNOWN_CODE;
     };
-    let ParityCode::Known(p) = parity_of(parity) else {
-        return UNKNOWN_CODE;
-    };
-    let ShapeCode::Known(s) = shape_of(shape) else {
-        return UNKNOWN_CODE;
-    };
-    let EndCode::Known(e) = end_of(end_sign) else {
+    let FormatCode::Known(s, e) = format_of(shape, end_sign) else {
         return UNKNOWN_CODE;
     };
     let written = block_written(write_block(m, p, s, e, header, text, &mut *out));
