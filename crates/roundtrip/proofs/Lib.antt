@@ -1,3 +1,1 @@
 pub mod Compared
-pub mod BlockReturns
-pub mod FrameReturns

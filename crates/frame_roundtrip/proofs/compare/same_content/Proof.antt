@@ -4,9 +4,9 @@ use mathlib.Core.Path.{sym}
 use lib.ListN.{length}
 use lib.Seq.{length-take-le}
 use borrow.Author.Needs.{needs}
 use Rattle.roundtrip.proofs.Compared.{denied}
-use Rattle.roundtrip.proofs.compare.same_content.Statement.{statement}
-use Rattle.roundtrip.proofs.compare.same_content.Tie as tie
+use Rattle.frame_roundtrip.proofs.compare.same_content.Statement.{statement}
+use Rattle.frame_roundtrip.proofs.compare.same_content.Tie as tie
 
 returns : tie.Need-returns
 returns c = denied (λ o. c .if1 .taken (o .content-length))

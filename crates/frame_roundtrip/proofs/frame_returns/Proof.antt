@@ -2,10 +2,10 @@
 -- output give what is compared. Assumes nothing.
 use mathlib.Core.Path.{ap}
 use borrow.Author.Needs.{needs}
 use Rattle.roundtrip.proofs.Compared.{bytes-of}
-use Rattle.roundtrip.proofs.FrameReturns.{not-written, written-frame, taken-back, taken-returns, refused-returns}
-use Rattle.roundtrip.proofs.frames.frame_returns.Statement.{statement}
-use Rattle.roundtrip.proofs.frames.frame_returns.Tie as tie
+use Rattle.frame_roundtrip.proofs.Returns.{not-written, written-frame, taken-back, taken-returns, refused-returns}
+use Rattle.frame_roundtrip.proofs.frame_returns.Statement.{statement}
+use Rattle.frame_roundtrip.proofs.frame_returns.Tie as tie
 
 write-frame-requires : tie.Need-write-frame-requires
 write-frame-requires c κs = search needs

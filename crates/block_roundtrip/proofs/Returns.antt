@@ -29,10 +29,11 @@ use Rattle.block.specs.Write as writing
 use Rattle.block.specs.Answers.{ofRead, ofReadAnswer, afterReading, readCall, writeNumber, writeValue, ofWritten, ofWriteAnswer, afterWriting, writeCall}
 use Rattle.guarantees.specs.Second.{partsWritten}
 use Rattle.guarantees.proofs.Second.{second-property}
 use Rattle.roundtrip.proofs.Compared.{joined}
-use Rattle.roundtrip.specs.declared.BlockReturn.{BlockReturn}
-use Rattle.roundtrip.specs.declared.BlockReturn.the-variants.{NotWritten, NotRead, Equal, Different}
-use Rattle.roundtrip.specs.Returns.{Returned, refused, returned, blockBack, blockAnswer, blockOutput, blockTrip, blockReturns, BlockOf, ofBlockReturn}
+use Rattle.block_roundtrip.specs.declared.BlockReturn.{BlockReturn}
+use Rattle.block_roundtrip.specs.declared.BlockReturn.the-variants.{NotWritten, NotRead, Equal, Different}
+use Rattle.roundtrip.specs.Returns.{Returned, refused, returned}
+use Rattle.block_roundtrip.specs.Returns.{blockBack, blockAnswer, blockOutput, blockTrip, blockReturns, BlockOf, ofBlockReturn}
 
 -- ---- what the output's length changes
 

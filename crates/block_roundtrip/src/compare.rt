@@ -9,7 +9,8 @@ ghost use mathlib.Core.Path.{_≡_};
 ghost use mathlib.Core.List.{_++_};
 ghost use Prim.Native.Nat.{_+_, _≤_};
 ghost use lib.ListN.{length, take};
-ghost use Rattle.roundtrip.specs.Returns.{Decides, BlockOf, ContentOf};
+ghost use Rattle.roundtrip.specs.Returns.{Decides};
+ghost use Rattle.block_roundtrip.specs.Returns.{BlockOf};
 
 // Whether the output starts with header and text.
 fn same_parts(header: &[u8], text: &[u8], out: &[u8]) -> bool
@@ -51,16 +52,4 @@ pub(crate) fn same_block(
         return false;
     }
     same_parts(header, text, out)
-}
-
-// Whether so many bytes were read as the content has, and the output starts with the content.
-pub(crate) fn same_content(bytes: usize, content: &[u8], out: &[u8]) -> bool
-    requires { ⌜ length (now content) ≤ length (now out) ⌝ }
-    ensures { λ r. ⌜ Decides r (ContentOf (now (content .entry)) bytes (now (out .entry))) ⌝ }
-{
-    let n = content.len();
-    if bytes != n {
-        return false;
-    }
-    same(content, &out[..n])
 }

@@ -3,9 +3,9 @@
 use mathlib.Core.Path.{sym, ap}
 use lib.Seq.{length-take-le}
 use borrow.Author.Needs.{needs}
-use Rattle.roundtrip.proofs.BlockReturns.{not-written, written-line, taken-back, taken-returns, refused-returns}
-use Rattle.roundtrip.proofs.blocks.block_returns.Statement.{statement}
-use Rattle.roundtrip.proofs.blocks.block_returns.Tie as tie
+use Rattle.block_roundtrip.proofs.Returns.{not-written, written-line, taken-back, taken-returns, refused-returns}
+use Rattle.block_roundtrip.proofs.block_returns.Statement.{statement}
+use Rattle.block_roundtrip.proofs.block_returns.Tie as tie
 
 write-block-requires : tie.Need-write-block-requires
 write-block-requires c κs = search needs

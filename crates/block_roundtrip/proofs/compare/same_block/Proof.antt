@@ -1,9 +1,9 @@
 -- `same_block` meets its contract: each test that fails denies one field, and those that pass give all. Assumes nothing.
 use mathlib.Core.Path.{sym, _∙_}
 use borrow.Author.Needs.{needs}
 use Rattle.roundtrip.proofs.Compared.{denied}
-use Rattle.roundtrip.proofs.compare.same_block.Statement.{statement}
-use Rattle.roundtrip.proofs.compare.same_block.Tie as tie
+use Rattle.block_roundtrip.proofs.compare.same_block.Statement.{statement}
+use Rattle.block_roundtrip.proofs.compare.same_block.Tie as tie
 
 shape-number-requires : tie.Need-shape-number-requires
 shape-number-requires c κs = search needs

@@ -5,9 +5,9 @@ use lib.ListN.{length}
 use lib.Seq.{length-take-le}
 use borrow.Author.Needs.{needs}
 use borrow.Author.Tests.{not-true, not-false}
 use Rattle.roundtrip.proofs.Compared.{parts-differ, parts-same}
-use Rattle.roundtrip.proofs.compare.same_parts.Statement.{statement}
-use Rattle.roundtrip.proofs.compare.same_parts.Tie as tie
+use Rattle.block_roundtrip.proofs.compare.same_parts.Statement.{statement}
+use Rattle.block_roundtrip.proofs.compare.same_parts.Tie as tie
 
 add-end : tie.Need-add-end
 add-end c = search needs

@@ -1,15 +1,29 @@
-// A frame written, read back and compared.
-use crate::FrameReturn;
+// A frame written, read back and compared: `frame_returns` joins the calls to the second property. It takes every input, and
+// answers `Equal` wherever the frame is written and the output holds what is read back, and else the refusal of the writer or of
+// the reader, which then is 38. The lent frame holds what was written, and what it held before where nothing was.
 use crate::compare::same_content;
 use frame::FrameMethod;
 use frame::FrameRead;
 use frame::FrameWritten;
+use frame::ReadRefusal;
+use frame::WriteRefusal;
 use frame_reader::read_frame;
 use frame_writer::write_frame;
 ghost use mathlib.Core.Path.{_≡_};
 ghost use mathlib.Core.Bool.{cond};
 ghost use Rattle.frame.specs.Frame.{parametersOf};
-ghost use Rattle.roundtrip.specs.Returns.{returned, ofFrameReturn, frameReturns};
+ghost use Rattle.roundtrip.specs.Returns.{returned};
+ghost use Rattle.frame_roundtrip.specs.Returns.{ofFrameReturn, frameReturns};
+
+pub enum FrameReturn {
+    Equal,
+    NotWritten(WriteRefusal),
+    NotRead(ReadRefusal),
+    // The contract shuts it out: what is written comes back.
+    Different,
+}
+
+mod compare;
 
 fn compared(same: bool) -> FrameReturn
     ensures { λ r. ⌜ r ≡ cond same FrameReturn.Equal FrameReturn.Different ⌝ }

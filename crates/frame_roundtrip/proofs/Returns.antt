@@ -27,10 +27,11 @@ use Rattle.frame.specs.Write as writing
 use Rattle.frame.specs.Answers.{ofRead, ofReadAnswer, afterReading, readCall, writeNumber, writeValue, ofWritten, ofWriteAnswer, afterWriting, writeCall}
 use Rattle.guarantees.specs.Second.{FrameReadsBack}
 use Rattle.guarantees.proofs.Second.{second-property}
-use Rattle.roundtrip.specs.declared.FrameReturn.{FrameReturn}
-use Rattle.roundtrip.specs.declared.FrameReturn.the-variants.{NotWritten, NotRead, Equal, Different}
-use Rattle.roundtrip.specs.Returns.{Returned, refused, returned, frameBack, frameAnswer, frameOutput, frameTrip, frameReturns, ContentOf, ofFrameReturn}
+use Rattle.frame_roundtrip.specs.declared.FrameReturn.{FrameReturn}
+use Rattle.frame_roundtrip.specs.declared.FrameReturn.the-variants.{NotWritten, NotRead, Equal, Different}
+use Rattle.roundtrip.specs.Returns.{Returned, refused, returned}
+use Rattle.frame_roundtrip.specs.Returns.{frameBack, frameAnswer, frameOutput, frameTrip, frameReturns, ContentOf, ofFrameReturn}
 use Rattle.roundtrip.proofs.Compared.{joined}
 
 -- ---- what the output's length changes
 
