@@ -4,15 +4,16 @@ use Prim.Native.Nat.{ℕ, zero, suc, _+_, _*_, _/_, _%_, _^_, _<_}
 use native.Mathlib.Omega.{arith}
 use native.Mathlib.Nat.{mod-eq-of-lt, div-eq-of-lt, pow-suc, zero-add, suc-add, div-one}
 use native.Mathlib.Numerals.{add-one, one-add}
-use mathlib.Core.Bool.{Bool, true, false, xor, cond}
+use mathlib.Core.Bool.{Bool, true, false, true≢false, xor, cond}
 use mathlib.Core.List.{List, [], _∷_, _++_, append-assoc, append-nil}
-use lib.Dec.{eqb}
+use borrow.Author.Tests.{eqb-true, eqb-false}
+use lib.Dec.{T, eqb}
 use lib.Bits.{bitXor, xor-mod, xor-shr}
 use lib.Pow.{shr-shr, field, mod-mod-pow, mod-pow-add}
 use lib.ListN.{length, length-append}
-use Rattle.bits.specs.Strings.{xorBits, zeros, ones, invert}
+use Rattle.bits.specs.Strings.{xorBits, zeros, ones, invert, same}
 use Rattle.bits.specs.Bytes.{lowBits, bitsOf, Bytes, value}
-use Rattle.bits.proofs.Strings.{append-split, invert-xor, xorBits-append, xorBits-comm}
+use Rattle.bits.proofs.Strings.{append-split, invert-xor, xorBits-append, xorBits-comm, same-sound, same-self}
 
 -- ---- lowBits
 
@@ -154,3 +155,24 @@ bitsOf-injective (x ∷ a) (y ∷ b) p q h e =
 pub bytes-append : (a b : List ℕ) → Bytes a → Bytes b → Bytes (a ++ b)
 bytes-append [] b p q = q
 bytes-append (x ∷ a) b p q = (p .0, bytes-append a b (p .1) q)
+
+-- ---- numbers compared as bits
+
+true-T : (b : Bool) → b ≡ true → T b
+true-T true e = tt
+true-T false e = absurd (true≢false (sym e))
+
+-- two numbers are equal exactly where two strings are
+pub equal-as-bits : (m n : ℕ) (a b : List Bool) → (m ≡ n → a ≡ b) → (a ≡ b → m ≡ n) → eqb m n ≡ same a b
+equal-as-bits m n a b f g = go (eqb m n) refl (same a b) refl
+  where
+    go : (t : Bool) → eqb m n ≡ t → (u : Bool) → same a b ≡ u → eqb m n ≡ same a b
+    go true p u q = p ∙ sym (ap (same a) (sym (f (eqb-true m n p))) ∙ same-self a)
+    go false p true q = absurd (eqb-false m n p (g (same-sound a b (true-T (same a b) q))))
+    go false p false q = p ∙ sym q
+
+-- a string's value is a number exactly where the string is the number's bits
+pub equal-value : (w n : ℕ) (s : List Bool) → length s ≡ w → n < 2 ^ w → eqb (value s) n ≡ same s (lowBits w n)
+equal-value w n s l h =
+    let e : lowBits w (value s) ≡ s = ap (λ k. lowBits k (value s)) (sym l) ∙ lowBits-value s in
+    equal-as-bits (value s) n s (lowBits w n) (λ q. sym e ∙ ap (lowBits w) q) (λ q. ap value q ∙ value-lowBits w n ∙ mod-eq-of-lt h)

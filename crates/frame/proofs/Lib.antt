@@ -1,3 +1,4 @@
 pub mod Stuffing
 pub mod OneToOne
 pub mod Words
+pub mod Told

@@ -1,9 +1,2 @@
-pub mod Places
-pub mod Removal
-pub mod WholeBytes
-pub mod Parts
-pub mod Turns
-pub mod Judging
-pub mod Received
-pub mod Questions
+pub mod HandingOut
 pub mod ReadFrame

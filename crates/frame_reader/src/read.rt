@@ -1,23 +1,24 @@
 // Reading a frame: questions 31 to 38, then the content handed out.
-use crate::WalkEnd;
-use crate::data::hand_out;
-use crate::walk::find_framing;
+use crate::content::hand_out;
 use frame::FrameMethod;
 use frame::FrameRead;
 use frame::ReadRefusal;
 use frame::check_width;
+use frame_framing::FramingEnd;
+use frame_framing::find_framing;
 ghost use mathlib.Core.Path.{_≡_};
 ghost use Rattle.bits.specs.Calls.{called};
 ghost use Rattle.frame.specs.Answers.{ofRead, readCall};
-ghost use Rattle.frame_reader.specs.Steps.{ofWalk, ofUnframed};
+ghost use Rattle.frame_framing.specs.Framing.{ofFraming};
+ghost use Rattle.frame_reader.specs.Steps.{ofUnframed};
 
-// The refusal of a walk that found no framing.
-fn unframed(w: WalkEnd) -> FrameRead
-    ensures { λ r. ⌜ ofRead r ≡ ofUnframed (ofWalk w) ⌝ }
+// The refusal where there is no framing.
+fn unframed(f: FramingEnd) -> FrameRead
+    ensures { λ r. ⌜ ofRead r ≡ ofUnframed (ofFraming f) ⌝ }
 {
-    match w {
-        WalkEnd::Refused(r) => FrameRead::Refused(r),
-        WalkEnd::Found(_) => FrameRead::Refused(ReadRefusal::BitsNotLent),
+    match f {
+        FramingEnd::Refused(r) => FrameRead::Refused(r),
+        FramingEnd::Found(_) => FrameRead::Refused(ReadRefusal::BitsNotLent),
     }
 }
 
@@ -25,9 +26,9 @@ fn unframed(w: WalkEnd) -> FrameRead
 pub fn read_frame(method: FrameMethod, bits: usize, lent: &[u8], out: &mut [u8]) -> FrameRead
     ensures { λ r. ⌜ called (ofRead r) (now (out .exit)) ≡ readCall method bits (now (lent .entry)) (now (out .entry)) ⌝ }
 {
-    let walked = find_framing(method, bits, lent);
-    let WalkEnd::Found(f) = walked else {
-        return unframed(walked);
+    let framing = find_framing(method, bits, lent);
+    let FramingEnd::Found(f) = framing else {
+        return unframed(framing);
     };
     let end = f.end;
     if !f.right {

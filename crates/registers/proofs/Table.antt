@@ -125,3 +125,11 @@ pub entered-by : (j : ℕ) (p : List Bool) → length p ≡ 8 + j → (register 
     → r ≡ enterAllByTable table register bytes → register < 2 ^ (8 + j) → lowBits (8 + j) r ≡ enter p (lowBits (8 + j) register) (bitsOf bytes)
 entered-by j p wide register bytes t e fits =
     ap (lowBits (8 + j)) (e ∙ ap (λ z. enterAllByTable z register bytes) t) ∙ table-enters j p wide register bytes fits
+
+-- and a register of the generator's width stays one
+pub enterAllByTable-lt : (j : ℕ) (p : List Bool) → length p ≡ 8 + j → (register : ℕ) (bytes : List ℕ) → register < 2 ^ (8 + j)
+    → enterAllByTable (tableOf (8 + j) p) register bytes < 2 ^ (8 + j)
+unfolding enterAllByTable
+enterAllByTable-lt j p wide register [] fits = fits
+enterAllByTable-lt j p wide register (b ∷ bytes) fits =
+    enterAllByTable-lt j p wide (enterByTable (tableOf (8 + j) p) register b) bytes (enterByTable-lt j p wide register b fits)

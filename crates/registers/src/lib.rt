@@ -1,17 +1,10 @@
-// Registers of 16 and 32 bits that bytes enter one by one through a table, and the bytes of a check as they are sent. A table is
-// lent, so that a loop copies none.
+// A register that bytes enter one by one through the table of a generator, of up to 32 bits, and the bytes of a check as they are
+// sent. The table is lent, so that a loop copies none.
 ghost use mathlib.Core.Path.{_≡_};
 ghost use Rattle.bits.specs.Bytes.{lowBits, pack};
 ghost use Rattle.registers.specs.Register.{enterByTable};
 
-pub fn enter_byte16(table: &[u16; 256], register: u16, byte: u8) -> u16
-    ensures { λ r. ⌜ r ≡ enterByTable (now (table .entry)) register byte ⌝ }
-{
-    let at = (register ^ (byte as u16)) % 256;
-    table[at as usize] ^ (register / 256)
-}
-
-pub fn enter_byte32(table: &[u32; 256], register: u32, byte: u8) -> u32
+pub fn enter_byte(table: &[u32; 256], register: u32, byte: u8) -> u32
     ensures { λ r. ⌜ r ≡ enterByTable (now (table .entry)) register byte ⌝ }
 {
     let at = (register ^ (byte as u32)) % 256;

@@ -1,9 +1,9 @@
-// The byte table of x^16 + x^12 + x^5 + 1, methods 3 and 5.
+// The byte table of x^16 + x^12 + x^5 + 1, method 5.
 ghost use mathlib.Core.Path.{_≡_};
 ghost use Rattle.division.specs.Generators.{ccitt16};
 ghost use Rattle.registers.specs.Register.{tableOf};
 
-const TABLE: [u16; 256] = [
+const TABLE: [u32; 256] = [
     0x0000,
     0x1189,
     0x2312,
@@ -262,7 +262,7 @@ const TABLE: [u16; 256] = [
     0x0f78,
 ];
 
-pub fn ccitt16() -> [u16; 256]
+pub fn ccitt16() -> [u32; 256]
     ensures { λ r. ⌜ r ≡ tableOf 16 ccitt16 ⌝ }
 {
     TABLE

@@ -1,1 +1,3 @@
 pub mod Removal
+pub mod Reader
+pub mod Parts

@@ -1,1 +1,2 @@
 pub mod Removal
+pub mod Reader

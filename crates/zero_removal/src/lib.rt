@@ -1,51 +1,31 @@
-// Zero removal, a byte of the line at a time, by what stands before it (003 par. 2.2.5). `unstuff_byte` takes every input; behind
-// five bits it gives what the rule gives.
-use zero_insertion::fives;
-ghost use mathlib.Core.Path.{_≡_};
-ghost use Prim.Native.Nat.{_<_};
-ghost use Rattle.zero_removal.specs.Removal.{receivedByte, Receives};
+// Zero removal, a byte of the line at a time, by what stands before it (003 par. 2.2.5): `read_byte` takes a byte of the line and gives
+// the next byte of content and check, where it is whole. It takes every input; for a reader that fits it gives what the rule gives.
 
 // A byte of the line as it is received: its bits without the inserted zeros, how many zeros those were, and the place of a one
 // where an inserted zero has to be, 8 where there is none.
-pub struct ReceivedByte {
+pub(crate) struct ReceivedByte {
     pub bits: u32,
     pub zeros: u32,
     pub missing: u32,
 }
 
-fn received(bits: u32, zeros: u32, missing: u32) -> ReceivedByte
-    ensures { λ r. ⌜ r ≡ receivedByte bits zeros missing ⌝ }
-{
-    ReceivedByte {
-        bits,
-        zeros,
-        missing,
-    }
+// The last five bits of the line, and the bits of content and check that make no byte yet: `pending` bits, held in a number.
+pub struct LineReader {
+    pub before: u32,
+    pub held: u32,
+    pub pending: u32,
 }
 
-// A byte as it is received behind five bits. In n ^ (n - 1) the bits up to the lowest one of n are ones.
-pub fn unstuff_byte(before: u32, byte: u8) -> ReceivedByte
-    ensures { λ r. ⌜ (before < 32 → Receives before byte r) ⌝ }
-{
-    let bits = byte as u32;
-    let behind = fives(before | (bits << 5)) & 255;
-    if behind == 0 {
-        return received(bits, 0, 8);
-    }
-    let to_zero = behind ^ (behind - 1);
-    let low = bits & (to_zero >> 1);
-    if low != bits & to_zero {
-        return received(bits, 0, u32::trailing_zeros(behind));
-    }
-    let high = bits ^ low;
-    let more = fives(high) & 7;
-    if more == 0 {
-        return received(low | (high >> 1), 1, 8);
-    }
-    let to_second = ((more ^ (more - 1)) << 5) | 31;
-    let middle = high & (to_second >> 1);
-    if middle != high & to_second {
-        return received(bits, 0, u32::trailing_zeros(more) + 5);
-    }
-    received((low | (middle >> 1)) | ((high ^ middle) >> 2), 2, 8)
+// The byte of content or check that a byte of the line makes whole, where it does; the place in the line's byte of a one where an
+// inserted zero has to be, 8 where there is none; and the reader after it.
+pub struct ByteRead {
+    pub byte: u8,
+    pub whole: bool,
+    pub missing: u32,
+    pub next: LineReader,
 }
+
+mod read;
+mod unstuff;
+
+pub use read::read_byte;

@@ -1,0 +1,127 @@
+-- One pass with the check: what is left to pass gives the whole. Assumes nothing.
+use mathlib.Core.Path.{_≡_, refl, sym, ap, ap₂, _∙_}
+use mathlib.Core.Bool.{true, false}
+use mathlib.Core.List.{List, _++_}
+use Prim.Native.Nat.{ℕ, suc, _+_, _*_, _-_, _/_, _%_, _^_, _<_, _≤_}
+use native.Mathlib.Nat.{mod-eq-of-lt}
+use native.Mathlib.Omega.{arith}
+use lib.ListN.{length, take, getD, length-append}
+use lib.Seq.{slice, take-at, drop-at}
+use Rattle.bits.specs.Bytes.{lowBits, bitsOf, value, packInto}
+use Rattle.bits.proofs.Bytes.{length-lowBits, lowBits-append, value-lowBits}
+use Rattle.bits.proofs.WholeBytes.{packInto-none}
+use Rattle.registers.specs.Register.{enterByTable, enterAllByTable}
+use Rattle.frame.specs.Stuffing.{Unstuffed, clean, missing, unstuff}
+use Rattle.zero_removal.specs.declared.LineReader.{LineReader}
+use Rattle.zero_removal.specs.declared.ByteRead.{ByteRead}
+use Rattle.zero_removal.specs.Removal.{inFront}
+use Rattle.zero_removal.specs.Reader.{ReaderFits, wholeBits, ReadsByte, leftAt}
+use Rattle.zero_removal.proofs.Parts.{inFront-none, byte-missing, byte-turn, firstReader, first-fits, first-left}
+use Rattle.frame_walk.specs.Walk.{closed, refused}
+use Rattle.frame_walk.specs.Steps.{passed}
+
+-- ---- a byte entered
+
+passed-byte : (table : List ℕ) (end register count b : ℕ) → b < 256 → (u : Unstuffed)
+    → passed table end register count (inFront (lowBits 8 b) u) ≡ passed table end (enterByTable table register b) (count + 8) u
+unfolding passed enterAllByTable packInto
+passed-byte table end register count b small (missing p) = refl
+passed-byte table end register count b small (clean s) =
+    let l = length-lowBits 8 b in
+    let m = length-append (lowBits 8 b) s in
+    let n : count + length (lowBits 8 b ++ s) ≡ count + 8 + length s = omega arith in
+    let q : length (lowBits 8 b ++ s) / 8 ≡ suc (length s / 8) = omega arith in
+    let v : value (take 8 (lowBits 8 b ++ s)) ≡ b = ap value (take-at (lowBits 8 b) s 8 l) ∙ value-lowBits 8 b ∙ mod-eq-of-lt small in
+    ap₂ (closed end) n (ap (λ k. enterAllByTable table register (packInto k (lowBits 8 b ++ s))) q
+    ∙ ap₂ (λ x y. enterAllByTable table (enterByTable table register x) (packInto (length s / 8) y)) v (drop-at (lowBits 8 b) s 8 l))
+
+-- ---- the loop over whole bytes
+
+pub record Passing (table : List ℕ) (start : ℕ) (lent : List ℕ) (end register count index : ℕ) (r : LineReader) : Type 0 where
+  pub left : passed table end register count (leftAt (bitsOf lent) end index r) ≡ passed table end start 0 (unstuff 0 8 (slice 8 end (bitsOf lent)))
+  pub fits : ReaderFits r
+  pub within : 8 * index ≤ end
+  pub counted : count + 8 ≤ 8 * index
+
+pub pass-begin : (table : List ℕ) (start : ℕ) (lent : List ℕ) (end : ℕ) → 8 ≤ end → Passing table start lent end start 0 1 firstReader
+pass-begin table start lent end h =
+    record {
+      left = ap (passed table end start 0) (first-left (bitsOf lent) end);
+      fits = first-fits;
+      within = omega arith;
+      counted = omega arith;
+    }
+
+module _ {table : List ℕ} {start : ℕ} {lent : List ℕ} {end register count index : ℕ} {r : LineReader} (fit : end ≤ 8 * length lent)
+    (j : Passing table start lent end register count index r) (h : 8 * (index + 1) ≤ end) {x : ByteRead} (reads : ReaderFits r → ReadsByte r (getD lent index 0) x) where
+  e : ReadsByte r (getD lent index 0) x
+  e = reads (j .fits)
+
+  pub pass-missing : x .missing < 8 → refused 33 (8 * index + x .missing) ≡ passed table end start 0 (unstuff 0 8 (slice 8 end (bitsOf lent)))
+  unfolding passed
+  pass-missing m = sym (ap (passed table end register count) (byte-missing lent end fit r index h e m)) ∙ j .left
+
+  module _ (m : 8 ≤ x .missing) where
+    turned : leftAt (bitsOf lent) end index r ≡ inFront (wholeBits (x .whole) (x .byte)) (leftAt (bitsOf lent) end (index + 1) (x .next))
+    turned = byte-turn lent end fit r index h e (omega (arith, e .missing-le))
+
+    pub pass-turn : x .whole ≡ true → x .byte < 256 → {next : ℕ} → next ≡ enterByTable table register (x .byte)
+        → Passing table start lent end next (count + 8) (index + 1) (x .next)
+    pass-turn w small q =
+        let after = leftAt (bitsOf lent) end (index + 1) (x .next) in
+        record {
+          left =
+              ap (λ n. passed table end n (count + 8) after) q
+              ∙ sym (passed-byte table end register count (x .byte) small after)
+              ∙ ap (λ v. passed table end register count (inFront (wholeBits v (x .byte)) after)) (sym w)
+              ∙ ap (passed table end register count) (sym turned) ∙ j .left;
+          fits = e .fits;
+          within = h;
+          counted = omega (arith, j .counted);
+        }
+
+    pub pass-part : x .whole ≡ false → Passing table start lent end register count (index + 1) (x .next)
+    pass-part w =
+        let after = leftAt (bitsOf lent) end (index + 1) (x .next) in
+        record {
+          left =
+              ap (passed table end register count) (sym (inFront-none after) ∙ ap (λ v. inFront (wholeBits v (x .byte)) after) (sym w) ∙ sym turned)
+              ∙ j .left;
+          fits = e .fits;
+          within = h;
+          counted = omega (arith, j .counted);
+        }
+
+-- ---- the bits behind them
+
+pub pass-end : {table : List ℕ} {start : ℕ} {lent : List ℕ} {end register count index : ℕ} {r : LineReader} → Passing table start lent end register count index r
+    → {u : Unstuffed} → u ≡ leftAt (bitsOf lent) end index r → passed table end register count u ≡ passed table end start 0 (unstuff 0 8 (slice 8 end (bitsOf lent)))
+pass-end {table} {end = end} {register = register} {count = count} j e = ap (passed table end register count) e ∙ j .left
+
+module _ (table : List ℕ) (end register count : ℕ) where
+  pub last-missing : (p : ℕ) → refused 33 p ≡ passed table end register count (missing p)
+  unfolding passed
+  last-missing p = refl
+
+  module _ (held pending : ℕ) where
+    pub last-part : pending < 8 → closed end (count + pending) register ≡ passed table end register count (clean (lowBits pending held))
+    unfolding passed enterAllByTable
+    last-part l =
+        let s = lowBits pending held in
+        let n : count + pending ≡ count + length s = omega (arith, length-lowBits pending held) in
+        let z : length s / 8 ≤ 0 = omega (arith, length-lowBits pending held) in
+        ap₂ (closed end) n (sym (ap (enterAllByTable table register) (packInto-none (length s / 8) s z)))
+
+    pub last-byte : 8 ≤ pending → pending < 15 → {next : ℕ} → next ≡ enterByTable table register (held % 256)
+        → closed end (count + pending) next ≡ passed table end register count (clean (lowBits pending held))
+    unfolding passed enterAllByTable packInto
+    last-byte g l {next} en =
+        let s = lowBits pending held in
+        let n : count + pending ≡ count + length s = omega (arith, length-lowBits pending held) in
+        let q : length s / 8 ≡ 1 = omega (arith, length-lowBits pending held) in
+        let k : 8 + (pending - 8) ≡ pending = omega arith in
+        let t : take 8 s ≡ lowBits 8 held =
+        ap (λ p. take 8 (lowBits p held)) (sym k) ∙ ap (take 8) (lowBits-append 8 (pending - 8) held)
+        ∙ take-at (lowBits 8 held) (lowBits (pending - 8) (held / 2 ^ 8)) 8 (length-lowBits 8 held) in
+        let v : value (take 8 s) ≡ held % 256 = ap value t ∙ value-lowBits 8 held in
+        ap₂ (closed end) n (en ∙ sym (ap (λ x. enterAllByTable table register (packInto x s)) q ∙ ap (enterByTable table register) v))

@@ -1,0 +1,36 @@
+// The next byte of content and check, out of the bytes of the line.
+use crate::ByteRead;
+use crate::LineReader;
+use crate::unstuff::unstuff_byte;
+ghost use Rattle.zero_removal.specs.Reader.{ReaderFits, ReadsByte};
+
+// The bits that a byte of the line gives, behind those that are pending.
+pub fn read_byte(r: LineReader, byte: u8) -> ByteRead
+    ensures { λ x. ⌜ (ReaderFits r → ReadsByte r byte x) ⌝ }
+{
+    let got = unstuff_byte(r.before, byte);
+    let before = (byte as u32) >> 3;
+    let held = r.held | (got.bits << (r.pending % 32));
+    if got.zeros <= r.pending {
+        return ByteRead {
+            byte: (held % 256) as u8,
+            whole: true,
+            missing: got.missing,
+            next: LineReader {
+                before,
+                held: held >> 8,
+                pending: r.pending - got.zeros,
+            },
+        };
+    }
+    ByteRead {
+        byte: 0,
+        whole: false,
+        missing: got.missing,
+        next: LineReader {
+            before,
+            held,
+            pending: r.pending % 32 + (8 - got.zeros % 8),
+        },
+    }
+}
