@@ -31,7 +31,7 @@ pub stored-append : {xs ys a b c : List ℕ} {i j k : ℕ} → Stored a i xs b j
 stored-append {xs} {ys} {a} {i = i} s t =
     record { behind = λ rest. t .behind rest ∙ s .behind (ys ++ rest) ∙ ap (sets a i) (sym (append-assoc xs ys rest)) }
 
-length-stored : {xs a b : List ℕ} {i j : ℕ} → Stored a i xs b j → length b ≡ length a
+pub length-stored : {xs a b : List ℕ} {i j : ℕ} → Stored a i xs b j → length b ≡ length a
 length-stored {xs} {a} {i = i} s = ap length (s .behind []) ∙ length-sets a i (xs ++ [])
 
 -- from the start of an output that has room
