@@ -6,3 +6,5 @@ pub mod OneToOne
 pub mod Sums
 pub mod Passed
 pub mod Start
+pub mod Scans
+pub mod SignTests

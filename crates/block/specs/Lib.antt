@@ -6,3 +6,4 @@ pub mod Check
 pub mod Read
 pub mod Write
 pub mod Answers
+pub mod Scan

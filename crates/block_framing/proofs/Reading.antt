@@ -11,7 +11,6 @@ use lib.ListN.{length, getD, take, drop, drop-of-length-le}
 use Prim.Native.Nat.{zero, suc}
 use native.Mathlib.Nat.{add-zero}
 use mathlib.Core.Path.{subst}
-use Rattle.block_framing.specs.Runs.{Run}
 use lib.Seq.{drop-cons, slice}
 use borrow.Author.Tests.{eq-eqb, ne-eqb, le-leb, lt-leb}
 use Rattle.block.specs.declared.Method.{Method}
@@ -26,6 +25,7 @@ use Rattle.block.specs.Characters.{isSeven, parityRight}
 use Rattle.block.specs.Walk.{Stop, ended, refused, Walked, walk}
 use Rattle.block.specs.Marks.{counted}
 use Rattle.block.specs.Check.{checkLength}
+use Rattle.block.specs.Scan.{firstFailing}
 use Rattle.block.specs.Read.{Framed, found, unframed, askParities, askEnd, askWalk}
 use Rattle.block.specs.Read as rule
 use Rattle.block.specs.Answers.{readNumber, readValue}
@@ -33,7 +33,7 @@ use Rattle.block_framing.specs.declared.WalkEnd.{WalkEnd}
 use Rattle.block_framing.specs.declared.WalkEnd.the-variants as code
 use Rattle.block_framing.specs.declared.Tally.{Tally}
 use Rattle.block_framing.specs.declared.Segments.{Segments}
-use Rattle.block_framing.specs.Framings.{noTally, addMark, tallied, segments, framingAt, framed, refusal, ofWalk, stopped, answerAfter, walkAnswer, framedAnswer, startOf, wrongFrom}
+use Rattle.block_framing.specs.Framings.{noTally, addMark, tallied, segments, framingAt, framed, refusal, ofWalk, stopped, answerAfter, walkAnswer, framedAnswer, startOf}
 use Rattle.block_framing.proofs.FramingLaws.{tally-counts, marks-within}
 
 -- ---- a part of a slice
@@ -52,58 +52,24 @@ part-slice (suc f) (suc t) (x ∷ l) h =
 
 -- ---- 12: the first wrong parity
 
-pub record Searching (p : Parity) (line : List ℕ) (i : ℕ) : Type 0 where
-  pub within : i ≤ length line
-  pub rest : wrongFrom p i (drop i line) ≡ wrongFrom p 0 line
-
-module _ {p : Parity} {line : List ℕ} {i : ℕ} (w : Searching p line i) where
-  module _ (h : i < length line) {right : Bool} (r : right ≡ parityRight p (getD line i 0)) where
-    at-byte : cond right (wrongFrom p (i + 1) (drop (i + 1) line)) i ≡ wrongFrom p 0 line
-    at-byte =
-        ap (λ t. cond t (wrongFrom p (i + 1) (drop (i + 1) line)) i) r
-        ∙ ap (λ n. cond (parityRight p (getD line i 0)) (wrongFrom p (i + 1) (drop n line)) i) (add-one i)
-        ∙ sym (ap (wrongFrom p i) (drop-cons line i 0 h)) ∙ w .rest
-
-    pub search-on : right ≡ true → Searching p line (i + 1)
-    search-on e = record { within = omega arith; rest = sym (ap (λ t. cond t (wrongFrom p (i + 1) (drop (i + 1) line)) i) e) ∙ at-byte }
-
-    pub search-stops : right ≡ false → i ≡ wrongFrom p 0 line
-    search-stops e = sym (ap (λ t. cond t (wrongFrom p (i + 1) (drop (i + 1) line)) i) e) ∙ at-byte
-
-  pub search-ends : length line ≤ i → i ≡ wrongFrom p 0 line
-  search-ends h = sym (ap (wrongFrom p i) (drop-of-length-le line h)) ∙ w .rest
-
--- a run of right parities
-search-runs : {p : Parity} {line : List ℕ} (n : ℕ) {i : ℕ} → Searching p line i → Run (λ k. parityRight p (getD line k 0) ≡ true) (length line) i (i + n)
-    → Searching p line (i + n)
-search-runs zero {i} w r = rw (add-zero i) w
-search-runs {p} {line} (suc n) {i} w r =
-    let e : i + 1 + n ≡ i + suc n = omega arith in
-    let next = search-on w (omega (arith, r .within)) refl (r .all i (omega arith) (omega arith)) in
-    let rest : Run (λ k. parityRight p (getD line k 0) ≡ true) (length line) (i + 1) (i + 1 + n) =
-    record { on = omega arith; within = omega (arith, r .within); all = λ k l m. r .all k (omega arith) (omega arith) } in
-    subst (λ (m : ℕ). Searching p line m) e (search-runs n next rest)
-
-pub sixteen-on : {p : Parity} {line : List ℕ} {i : ℕ} → Searching p line i → Run (λ k. parityRight p (getD line k 0) ≡ true) (length line) i (i + 16)
-    → Searching p line (i + 16)
-sixteen-on w r = search-runs 16 w r
-
-pub parities-wrong : (p : Parity) (l : List ℕ) (at : ℕ) (next : Framed) → wrongFrom p at l < at + length l → askParities p l at next ≡ unframed 12 (wrongFrom p at l)
+pub parities-wrong : (p : Parity) (l : List ℕ) (at : ℕ) (next : Framed) → firstFailing (parityRight p) at l < at + length l → askParities p l at next ≡ unframed 12 (firstFailing (parityRight p) at l)
+unfolding firstFailing
 parities-wrong p [] at next h = absurd (omega arith)
 parities-wrong p (b ∷ l) at next h = go (parityRight p b) (λ k. parities-wrong p l (at + 1) next k) h
   where
-    go : (t : Bool) → (wrongFrom p (at + 1) l < at + 1 + length l → askParities p l (at + 1) next ≡ unframed 12 (wrongFrom p (at + 1) l))
-        → cond t (wrongFrom p (at + 1) l) at < at + suc (length l)
-        → cond t (askParities p l (at + 1) next) (unframed 12 at) ≡ unframed 12 (cond t (wrongFrom p (at + 1) l) at)
+    go : (t : Bool) → (firstFailing (parityRight p) (at + 1) l < at + 1 + length l → askParities p l (at + 1) next ≡ unframed 12 (firstFailing (parityRight p) (at + 1) l))
+        → cond t (firstFailing (parityRight p) (at + 1) l) at < at + suc (length l)
+        → cond t (askParities p l (at + 1) next) (unframed 12 at) ≡ unframed 12 (cond t (firstFailing (parityRight p) (at + 1) l) at)
     go true ih k = ih (omega arith)
     go false ih k = refl
 
-pub parities-right : (p : Parity) (l : List ℕ) (at : ℕ) (next : Framed) → at + length l ≤ wrongFrom p at l → askParities p l at next ≡ next
+pub parities-right : (p : Parity) (l : List ℕ) (at : ℕ) (next : Framed) → at + length l ≤ firstFailing (parityRight p) at l → askParities p l at next ≡ next
+unfolding firstFailing
 parities-right p [] at next h = refl
 parities-right p (b ∷ l) at next h = go (parityRight p b) (λ k. parities-right p l (at + 1) next k) h
   where
-    go : (t : Bool) → (at + 1 + length l ≤ wrongFrom p (at + 1) l → askParities p l (at + 1) next ≡ next)
-        → at + suc (length l) ≤ cond t (wrongFrom p (at + 1) l) at → cond t (askParities p l (at + 1) next) (unframed 12 at) ≡ next
+    go : (t : Bool) → (at + 1 + length l ≤ firstFailing (parityRight p) (at + 1) l → askParities p l (at + 1) next ≡ next)
+        → at + suc (length l) ≤ cond t (firstFailing (parityRight p) (at + 1) l) at → cond t (askParities p l (at + 1) next) (unframed 12 at) ≡ next
     go true ih k = ih (omega arith)
     go false ih k = absurd (omega arith)
 
@@ -269,10 +235,10 @@ module _ (m : Method) (p : Parity) (line : List ℕ) where
           ap (λ t. rule.ask t 11 0 (cond (isSeven m) (askParities p line 0 (askWalk m line (walk (isSeven m) line 0 Start))) (askWalk m line (walk (isSeven m) line 0 Start)))) (le-leb (length line) 16384 h)
           ∙ ap (λ t. cond t (askParities p line 0 (askWalk m line (walk (isSeven m) line 0 Start))) (askWalk m line (walk (isSeven m) line 0 Start))) (sym s ∙ e)
 
-      pub wrong-parity : {at : ℕ} → at ≡ wrongFrom p 0 line → at < length line → refusal 12 at ≡ framedAnswer (isSeven m) line (rule.framed m p line)
+      pub wrong-parity : {at : ℕ} → at ≡ firstFailing (parityRight p) 0 line → at < length line → refusal 12 at ≡ framedAnswer (isSeven m) line (rule.framed m p line)
       wrong-parity q k =
           ap (refusal 12) q ∙ sym (ap (framedAnswer (isSeven m) line) (seven-bit ∙ parities-wrong p line 0 _ (omega arith)))
 
-      pub right-parity : {at : ℕ} → at ≡ wrongFrom p 0 line → length line ≤ at
+      pub right-parity : {at : ℕ} → at ≡ firstFailing (parityRight p) 0 line → length line ≤ at
           → framedAnswer (isSeven m) line (askWalk m line (walk (isSeven m) line 0 Start)) ≡ framedAnswer (isSeven m) line (rule.framed m p line)
       right-parity q k = sym (ap (framedAnswer (isSeven m) line) (seven-bit ∙ parities-right p line 0 _ (omega arith)))

@@ -5,14 +5,12 @@ use Prim.Native.Nat.{ℕ, zero, suc, _+_, _-_, _≤_, _<_}
 use native.Mathlib.Nat.{add-zero}
 use native.Mathlib.Numerals.{add-one}
 use native.Mathlib.Omega.{arith}
-use mathlib.Core.Bool.{Bool, true, false, true≢false, cond, _&&_}
-use mathlib.Core.List.{List}
-use lib.Bits.{bitXor, xor-self}
-use lib.Dec.{eqb, ltb}
-use lib.ListN.{length, getD, drop, drop-of-length-le}
-use lib.Seq.{drop-cons}
+use mathlib.Core.Bool.{Bool, true, false, true≢false, cond, not, _&&_}
+use mathlib.Core.List.{List, [], _∷_}
+use lib.Dec.{eqb}
+use lib.ListN.{length, getD, take, drop, drop-of-length-le, length-drop}
+use lib.Seq.{drop-cons, getD-drop, take-length}
 use borrow.Author.Count.{below-more}
-use borrow.Author.Tests.{ltb-true, ltb-false, ne-eqb}
 use Rattle.block.specs.declared.EndSign.{EndSign}
 use Rattle.block.specs.declared.Mark.{Mark}
 use Rattle.block.specs.declared.Mark.the-variants.{LeftOut, HeaderByte, TextByte, InnerStart, End}
@@ -20,16 +18,17 @@ use Rattle.block.specs.declared.Field.{Field}
 use Rattle.block.specs.declared.Field.the-variants.{Start, StartDle, Header, HeaderDle, Text, Clear, ClearDle}
 use Rattle.block.specs.declared.Judged.{Judged}
 use Rattle.block.specs.declared.Judged.the-variants.{Is, Ends}
-use Rattle.block.specs.Signs.{DLE, US, Sign, soh, stx, etx, dle, syn, etb, us, other, signOf, OffSigns, isDle}
+use Rattle.block.specs.Signs.{Sign, soh, stx, etx, dle, syn, etb, us, other, signOf, isDle}
 use Rattle.block.specs.Characters.{character}
 use Rattle.block.specs.Walk.{halt, cut, onward, judge, walk}
 use Rattle.block.specs.Write.{isOther}
-use Rattle.block.proofs.NoSign.{NoSign, no-sign, off-none, above-none}
+use Rattle.block.specs.Scan.{firstFailing}
+use Rattle.block.proofs.Scans.{Reached, reached}
+use Rattle.block_scan.specs.Tests.{isPlainByte, isClearByte}
 use Rattle.block_framing.specs.declared.Tally.{Tally}
 use Rattle.block_framing.specs.declared.Segments.{Segments}
 use Rattle.block_framing.specs.Framings.{noTally, addMark, startOf, startAt, framingAt, framed, stopped, walkAnswer, Small}
-use Rattle.block_framing.specs.Runs.{isClearData, dataMark, Run, IsData, addRun}
-use Rattle.block_framing.proofs.KeptBySign.{dle-test}
+use Rattle.block_framing.specs.Runs.{dataMark, Run, IsData, isData, addRun}
 use Rattle.block_framing.proofs.Starts.{StartNoted, start-below, start-stays, start-on, start-ended}
 
 -- ---- the tally stays below the place
@@ -126,7 +125,7 @@ module _ {seven : Bool} {line : List ℕ} {t : Tally} {f : Field} {start i : ℕ
 
 -- which signs are data
 module _ (seven : Bool) where
-  header-data : (s : Sign) → isOther s ≡ true → judge seven Header s ≡ Is HeaderByte Header
+  header-data : (s : Sign) → isOther s && true ≡ true → judge seven Header s ≡ Is HeaderByte Header
   header-data soh e = absurd (true≢false (sym e))
   header-data stx e = absurd (true≢false (sym e))
   header-data etx e = absurd (true≢false (sym e))
@@ -136,7 +135,7 @@ module _ (seven : Bool) where
   header-data us e = absurd (true≢false (sym e))
   header-data other e = refl
 
-  text-data : (s : Sign) → isOther s ≡ true → judge seven Text s ≡ Is TextByte Text
+  text-data : (s : Sign) → isOther s && true ≡ true → judge seven Text s ≡ Is TextByte Text
   text-data soh e = absurd (true≢false (sym e))
   text-data stx e = absurd (true≢false (sym e))
   text-data etx e = absurd (true≢false (sym e))
@@ -146,7 +145,7 @@ module _ (seven : Bool) where
   text-data us e = absurd (true≢false (sym e))
   text-data other e = refl
 
-  clear-data : (s : Sign) → isClearData s ≡ true → judge seven Clear s ≡ Is TextByte Clear
+  clear-data : (s : Sign) → not (isDle s) ≡ true → judge seven Clear s ≡ Is TextByte Clear
   clear-data soh e = refl
   clear-data stx e = refl
   clear-data etx e = refl
@@ -156,8 +155,15 @@ module _ (seven : Bool) where
   clear-data us e = refl
   clear-data other e = refl
 
-pub run-map : {P Q : ℕ → Type 0} {size from end : ℕ} → Run P size from end → ((k : ℕ) → P k → Q k) → Run Q size from end
-run-map r f = record { on = r .on; within = r .within; all = λ k l h. f k (r .all k l h) }
+  data-of : (f : Field) (b : ℕ) → isData seven f b ≡ true → judge seven f (signOf (character seven b)) ≡ Is (dataMark f) f
+  unfolding isPlainByte isClearByte
+  data-of Start b e = absurd (true≢false (sym e))
+  data-of StartDle b e = absurd (true≢false (sym e))
+  data-of Header b e = header-data (signOf (character seven b)) e
+  data-of HeaderDle b e = absurd (true≢false (sym e))
+  data-of Text b e = text-data (signOf (character seven b)) e
+  data-of Clear b e = clear-data (signOf (character seven b)) e
+  data-of ClearDle b e = absurd (true≢false (sym e))
 
 pub run-none : {P : ℕ → Type 0} {size from : ℕ} → from ≤ size → Run P size from from
 run-none h = record { on = omega arith; within = h; all = λ k l m. absurd (omega arith) }
@@ -169,17 +175,6 @@ run-more {P} {size} {from} {end} r h x =
       within = omega arith;
       all = λ k l m. below-more (λ i. from ≤ i → P i) end (λ i q z. r .all i z q) (λ z. x) k m l;
     }
-
-pub run-shift : {P : ℕ → Type 0} {size from end other : ℕ} → end ≡ other → Run P size from end → Run P size from other
-run-shift {P} {size} {from} e r = subst (λ (n : ℕ). Run P size from n) e r
-
-pub run-join : {P : ℕ → Type 0} {size from middle end : ℕ} → Run P size from middle → Run P size middle end → Run P size from end
-run-join {P} {size} {from} {middle} {end} r s =
-    record { on = omega (arith, r .on, s .on); within = s .within; all = λ k l m. go k l m (ltb k middle) refl }
-  where
-    go : (k : ℕ) → from ≤ k → k < end → (t : Bool) → ltb k middle ≡ t → P k
-    go k l m true e = r .all k l (ltb-true k middle e)
-    go k l m false e = s .all k (ltb-false k middle e) m
 
 -- as many marks of data
 add-none : (f : Field) (t : Tally) → addRun f 0 t ≡ t
@@ -227,68 +222,36 @@ passes {seven} {line} (suc n) {t} {f} {start} {i} w r =
     record { on = omega arith; within = omega (arith, r .within); all = λ k l m. r .all k (omega arith) (omega arith) } in
     rw (← add-one-more f n i t, ← one-before i n) (passes n step rest)
 
-pub pass : {seven : Bool} {line : List ℕ} {t u : Tally} {f : Field} {start i end : ℕ} → Walking seven line t f start i
-    → Run (IsData seven f line) (length line) i end → u ≡ addRun f (end - i) t → Walking seven line u f start end
-pass {seven} {line} {t} {u} {f} {start} {i} {end} w r e =
-    let s : i + (end - i) ≡ end = omega (arith, r .on) in
-    let m : Run (IsData seven f line) (length line) i (i + (end - i)) = rw s r in
-    rw e (subst (λ (n : ℕ). Walking seven line (addRun f (end - i) t) f start n) s (passes (end - i) w m))
+pub pass : {seven : Bool} {line : List ℕ} {t u : Tally} {f : Field} {start i : ℕ} (n : ℕ) → Walking seven line t f start i
+    → Run (IsData seven f line) (length line) i (i + n) → u ≡ addRun f n t → Walking seven line u f start (i + n)
+pass n w r e = rw e (passes n w r)
 
--- the run of each field
-pub header-run : (seven : Bool) (line : List ℕ) {from end : ℕ} {f : Field} → f ≡ Header
-    → Run (λ k. isOther (signOf (character seven (getD line k 0))) ≡ true) (length line) from end → Run (IsData seven f line) (length line) from end
-header-run seven line e r = rw e (run-map r (λ k. header-data seven (signOf (character seven (getD line k 0)))))
+-- the run that a scan of the rest of the line finds
+module _ (seven : Bool) (f : Field) (line : List ℕ) (from : ℕ) (h : from ≤ length line) {r : ℕ}
+    (e : r ≡ firstFailing (isData seven f) 0 (take (length line - from) (drop from line))) where
+  found : Reached (isData seven f) 0 (drop from line) r
+  found =
+      let p : take (length line - from) (drop from line) ≡ drop from line = ap (λ n. take n (drop from line)) (sym (length-drop from line)) ∙ take-length (drop from line) in
+      rw (e, p) (reached (isData seven f) 0 (drop from line))
 
-pub text-run : (seven : Bool) (line : List ℕ) {from end : ℕ} {f : Field} → f ≡ Text
-    → Run (λ k. isOther (signOf (character seven (getD line k 0))) ≡ true) (length line) from end → Run (IsData seven f line) (length line) from end
-text-run seven line e r = rw e (run-map r (λ k. text-data seven (signOf (character seven (getD line k 0)))))
+  pub run-within : from + r ≤ length line
+  run-within = omega (arith, found .within, length-drop from line)
 
-pub clear-run : (seven : Bool) (line : List ℕ) {from end : ℕ} {f : Field} → f ≡ Clear
-    → Run (λ k. isClearData (signOf (character seven (getD line k 0))) ≡ true) (length line) from end → Run (IsData seven f line) (length line) from end
-clear-run seven line e r = rw e (run-map r (λ k. clear-data seven (signOf (character seven (getD line k 0)))))
+  pub scanned-run : Run (IsData seven f line) (length line) from (from + r)
+  scanned-run =
+      record {
+        on = omega arith;
+        within = run-within;
+        all =
+            λ k l m.
+            let p : from + (k - from) ≡ k = omega arith in
+            data-of seven f (getD line k 0)
+            (sym (ap (λ n. isData seven f (getD line n 0)) p)
+            ∙ sym (ap (isData seven f) (getD-drop from line (k - from) 0)) ∙ found .all (k - from) (omega arith));
+      }
 
--- ---- scans
-
--- a loop over 16 places after i of them: where `Ok` holds, P holds at each of these
-pub record Sixteen (Ok : Type 0) (P : ℕ → Type 0) (size at i : ℕ) : Type 0 where
-  pub within : i ≤ 16
-  pub run : Ok → Run P size at (at + i)
-
-module _ {Ok : Type 0} {P : ℕ → Type 0} {size at : ℕ} where
-  pub sixteen-begin : at + 16 ≤ size → Sixteen Ok P size at 0
-  sixteen-begin h = record { within = omega arith; run = λ k. rw (add-zero at) (run-none (omega arith)) }
-
-  pub sixteen-turn : {Next : Type 0} {i : ℕ} → Sixteen Ok P size at i → at + 16 ≤ size → i < 16 → (Next → Ok × P (at + i)) → Sixteen Next P size at (i + 1)
-  sixteen-turn {Next} {i} s h l f =
-      record { within = omega arith; run = λ k. run-shift (omega arith) (run-more (s .run (f k .0)) (omega arith) (f k .1)) }
-
-  pub sixteen-end : {i : ℕ} → Sixteen Ok P size at i → 16 ≤ i → Ok → Run P size at (at + 16)
-  sixteen-end s h k = run-shift (omega arith) (s .run k)
-
--- which characters are data: in header and plain text what is no sign, in clear text all but DLE
-plain-data : (c : ℕ) → NoSign c → isOther (signOf c) ≡ true
-plain-data c h = ap isOther (no-sign c h)
-
-pub off-data : (c : ℕ) → OffSigns c → isOther (signOf c) ≡ true
-off-data c h = plain-data c (off-none c h)
-
-pub above-data : (c : ℕ) → US < c → isOther (signOf c) ≡ true
-above-data c h = plain-data c (above-none c h)
-
-no-dle-data : (s : Sign) → isDle s ≡ false → isClearData s ≡ true
-no-dle-data soh e = refl
-no-dle-data stx e = refl
-no-dle-data etx e = refl
-no-dle-data dle e = sym e
-no-dle-data syn e = refl
-no-dle-data etb e = refl
-no-dle-data us e = refl
-no-dle-data other e = refl
-
-pub off-dle-data : (c : ℕ) → 0 < bitXor c DLE → isClearData (signOf c) ≡ true
-off-dle-data c h =
-    no-dle-data (signOf c) (sym (dle-test c) ∙ ne-eqb c DLE (λ e. omega (arith, ap (λ x. bitXor x DLE) e ∙ xor-self DLE)))
-
-pub both : (a b : Bool) → (a && b) ≡ true → (a ≡ true) × (b ≡ true)
-both true b e = (refl, e)
-both false b e = absurd (true≢false (sym e))
+-- a field without data
+pub no-run : {test : ℕ → Bool} (l : List ℕ) → ((b : ℕ) → test b ≡ false) → firstFailing test 0 l ≡ 0
+unfolding firstFailing
+no-run [] h = refl
+no-run (b ∷ l) h = rw (h b)

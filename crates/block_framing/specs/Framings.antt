@@ -8,7 +8,6 @@ use lib.Dec.{eqb}
 use lib.ListN.{length, getD}
 use lib.Seq.{slice}
 use Rattle.bits.specs.Differences.{consIf}
-use Rattle.block.specs.declared.Parity.{Parity}
 use Rattle.block.specs.declared.Shape.{Shape}
 use Rattle.block.specs.declared.Shape.the-variants as shape
 use Rattle.block.specs.declared.EndSign.{EndSign}
@@ -17,7 +16,7 @@ use Rattle.block.specs.declared.Mark.the-variants.{LeftOut, HeaderByte, TextByt
 use Rattle.block.specs.declared.Field.{Field}
 use Rattle.block.specs.declared.Field.the-variants.{Start, StartDle, Header, HeaderDle, Text, Clear, ClearDle}
 use Rattle.block.specs.Signs.{SYN, DLE, signOf, isSyn}
-use Rattle.block.specs.Characters.{character, parityRight}
+use Rattle.block.specs.Characters.{character}
 use Rattle.block.specs.Walk.{Stop, ended, refused, Walked}
 use Rattle.block.specs.Marks.{counted, isHeader, isText, sift}
 use Rattle.block.specs.Read.{Framed, found, unframed}
@@ -140,11 +139,6 @@ framedAnswer seven line (unframed number value) = refusal number value
 abbrev pub ofUnframed : WalkAnswer → Numbers
 ofUnframed (framed f) = answers.refused 15 0
 ofUnframed (refusal number value) = answers.refused number value
-
--- the first place from `at` on whose parity is wrong, or the place after the line
-abbrev pub wrongFrom : Parity → ℕ → List ℕ → ℕ
-wrongFrom p at [] = at
-wrongFrom p at (b ∷ bs) = cond (parityRight p b) (wrongFrom p (at + 1) bs) at
 
 -- ---- bytes by their segments
 

@@ -9,22 +9,12 @@ use Rattle.block.specs.declared.Mark.the-variants.{LeftOut, HeaderByte, TextByt
 use Rattle.block.specs.declared.Field.{Field}
 use Rattle.block.specs.declared.Field.the-variants.{Start, StartDle, Header, HeaderDle, Text, Clear, ClearDle}
 use Rattle.block.specs.declared.Judged.the-variants.{Is}
-use Rattle.block.specs.Signs.{Sign, soh, stx, etx, dle, syn, etb, us, other, signOf}
+use Rattle.block.specs.Signs.{signOf}
 use Rattle.block.specs.Characters.{character}
 use Rattle.block.specs.Walk.{judge}
+use Rattle.block_scan.specs.Tests.{isPlainByte, isClearByte}
 use Rattle.block_framing.specs.declared.Tally.{Tally}
 use Rattle.block_framing.specs.Framings.{isKept}
-
--- in clear text all but DLE is data
-abbrev pub isClearData : Sign → Bool
-isClearData soh = true
-isClearData stx = true
-isClearData etx = true
-isClearData dle = false
-isClearData syn = true
-isClearData etb = true
-isClearData us = true
-isClearData other = true
 
 -- the mark of data in a field
 abbrev pub dataMark : Field → Mark
@@ -44,6 +34,16 @@ pub record Run (P : ℕ → Type 0) (size from end : ℕ) : Type 0 where
 
 abbrev pub IsData : Bool → Field → List ℕ → ℕ → Type 0
 IsData seven f line k = judge seven f (signOf (character seven (getD line k 0))) ≡ Is (dataMark f) f
+
+-- whether a byte is data of a field
+abbrev pub isData : Bool → Field → ℕ → Bool
+isData seven Start b = false
+isData seven StartDle b = false
+isData seven Header b = isPlainByte seven false b
+isData seven HeaderDle b = false
+isData seven Text b = isPlainByte seven false b
+isData seven Clear b = isClearByte seven b
+isData seven ClearDle b = false
 
 -- n bytes of data counted up
 abbrev pub addRun : Field → ℕ → Tally → Tally

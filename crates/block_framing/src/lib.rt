@@ -37,7 +37,6 @@ pub enum WalkEnd {
 
 mod questions;
 mod run;
-mod scan;
 mod walk;
 
 pub use questions::find_framing;

@@ -1,27 +1,26 @@
 // Runs of data: in header, plain text and clear text the bytes up to the next sign are passed over at once.
 use crate::Tally;
-use crate::scan::clear_end;
-use crate::scan::plain_end;
 use block::Field;
+use block_scan::clear_run;
+use block_scan::plain_run;
 ghost use mathlib.Core.Path.{_≡_};
 ghost use Prim.Native.Nat.{_≤_};
-ghost use lib.ListN.{length};
+ghost use Rattle.block.specs.Scan.{firstFailing};
 ghost use Rattle.block_framing.specs.Framings.{Small};
-ghost use Rattle.block_framing.specs.Runs.{Run, IsData, addRun};
+ghost use Rattle.block_framing.specs.Runs.{isData, addRun};
 
-// Where the run of data that begins at the place `from` of field f ends.
-pub(crate) fn run_end(seven: bool, f: Field, line: &[u8], from: usize) -> usize
-    requires { ⌜ from ≤ length (now line) ⌝ }
-    ensures { λ r. ⌜ Run (IsData seven f (now (line .entry))) (length (now (line .entry))) from r ⌝ }
+// How many bytes of data of field f a part of a line begins with.
+pub(crate) fn run_of(seven: bool, f: Field, part: &[u8]) -> usize
+    ensures { λ r. ⌜ r ≡ firstFailing (isData seven f) 0 (now (part .entry)) ⌝ }
 {
     match f {
-        Field::Start => from,
-        Field::StartDle => from,
-        Field::Header => plain_end(seven, line, from),
-        Field::HeaderDle => from,
-        Field::Text => plain_end(seven, line, from),
-        Field::Clear => clear_end(seven, line, from),
-        Field::ClearDle => from,
+        Field::Start => 0,
+        Field::StartDle => 0,
+        Field::Header => plain_run(seven, false, part),
+        Field::HeaderDle => 0,
+        Field::Text => plain_run(seven, false, part),
+        Field::Clear => clear_run(seven, part),
+        Field::ClearDle => 0,
     }
 }
 

@@ -3,7 +3,7 @@ use crate::Segments;
 use crate::Tally;
 use crate::WalkEnd;
 use crate::run::add_run;
-use crate::run::run_end;
+use crate::run::run_of;
 use block::BytePlace;
 use block::EndSign;
 use block::Field;
@@ -201,11 +201,11 @@ pub(crate) fn walk(seven: bool, line: &[u8]) -> WalkEnd
         match judge(seven, f, character(seven, line[i])) {
             Judged::Is(k, g) => {
                 let next = i + 1;
-                let end = run_end(seven, g, line, next);
-                t = add_run(g, end - next, add_mark(k, i, t));
+                let run = run_of(seven, g, &line[next..]);
+                t = add_run(g, run, add_mark(k, i, t));
                 start = start_at(f, i, start);
                 f = g;
-                i = end;
+                i = next + run;
             }
             Judged::Ends(e) => {
                 let counted = add_mark(Mark::End, i, t);

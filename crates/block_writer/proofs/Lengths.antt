@@ -1,10 +1,10 @@
--- Lengths: of signs, of escaped text and of the line. Assumes nothing.
-use mathlib.Core.Path.{_≡_, ap, ap₂, _∙_}
+-- Lengths: of escaped text and of the line. Assumes nothing.
+use mathlib.Core.Path.{_≡_, refl, ap, ap₂, _∙_}
 use Prim.Native.Nat.{ℕ, suc, _+_, _*_, _≤_, _<_}
 use native.Mathlib.Numerals.{add-one}
 use native.Mathlib.Omega.{arith}
 use mathlib.Core.Bool.{Bool, true, false, cond}
-use mathlib.Core.List.{List, [], _∷_, _++_}
+use mathlib.Core.List.{List, [], _∷_, _++_, map}
 use lib.Dec.{eqb}
 use lib.ListN.{length, getD, drop, length-append, length-map, drop-of-length-le}
 use lib.Seq.{drop-cons}
@@ -13,30 +13,14 @@ use Rattle.bits.specs.Bytes.{pack}
 use Rattle.block.specs.declared.Method.{Method}
 use Rattle.block.specs.declared.Parity.{Parity}
 use Rattle.block.specs.declared.Shape.{Shape}
-use Rattle.block.specs.declared.Shape.the-variants as shape
 use Rattle.block.specs.declared.EndSign.{EndSign}
 use Rattle.block.specs.Signs.{DLE, endByte}
 use Rattle.block.specs.Characters.{isSeven, sent}
 use Rattle.block.specs.Check.{checkOf, checkLength}
 use Rattle.block.specs.Write.{isClear, startSigns, innerSigns, doubled, escaped, countedBytes, framedBytes, lineOf}
 use Rattle.block.proofs.CheckLaws.{length-check-of}
-use Rattle.block_writer.specs.Writing.{bodyBytes, bodyLength, lineLength}
-
--- ---- signs
-
-pub inner-short : (s : Shape) → length (innerSigns s) ≤ 2
-inner-short shape.Header = omega arith
-inner-short shape.Text = omega arith
-inner-short shape.HeaderText = omega arith
-inner-short shape.ClearText = omega arith
-inner-short shape.HeaderClearText = omega arith
-
-pub start-short : (s : Shape) → length (startSigns s) ≤ 2
-start-short shape.Header = omega arith
-start-short shape.Text = omega arith
-start-short shape.HeaderText = omega arith
-start-short shape.ClearText = omega arith
-start-short shape.HeaderClearText = omega arith
+use Rattle.block_signs.specs.Signs.{endSigns}
+use Rattle.block_writer.specs.Writing.{textBytes}
 
 -- ---- escaped text: a loop that counts it up
 
@@ -44,7 +28,7 @@ length-doubled : (t : Bool) (b : ℕ) (bs : List ℕ) → length (doubled t b bs
 length-doubled true b bs = omega arith
 length-doubled false b bs = omega arith
 
-pub escaped-short : (bs : List ℕ) → length (escaped bs) ≤ 2 * length bs
+escaped-short : (bs : List ℕ) → length (escaped bs) ≤ 2 * length bs
 unfolding escaped
 escaped-short [] = omega arith
 escaped-short (b ∷ bs) = go (eqb b DLE) (escaped-short bs)
@@ -53,10 +37,10 @@ escaped-short (b ∷ bs) = go (eqb b DLE) (escaped-short bs)
     go true h = omega arith
     go false h = omega arith
 
-pub body-short : (clear : Bool) (body : List ℕ) → bodyLength clear body ≤ 2 * length body + 2
-unfolding bodyLength
-body-short true body = omega (arith, escaped-short body)
-body-short false body = omega arith
+pub text-short : (clear : Bool) (body : List ℕ) → length (textBytes clear body) ≤ 2 * length body
+unfolding textBytes
+text-short true body = escaped-short body
+text-short false body = omega arith
 
 pub record Counting (part : List ℕ) (n i : ℕ) : Type 0 where
   pub small : n ≤ 2 * i
@@ -86,40 +70,34 @@ count-all {part} {n} k h = omega (arith, k .rest, ap (λ l. length (escaped l)) 
 
 -- ---- the line
 
-pub length-body : (clear : Bool) (e : EndSign) (body : List ℕ) → length (bodyBytes clear e body) ≡ bodyLength clear body
-unfolding bodyBytes bodyLength
-length-body true e body = length-append (escaped body) (DLE ∷ endByte e ∷ [])
-length-body false e body = length-append body (endByte e ∷ [])
-
-pub length-clear : (e : EndSign) (body : List ℕ) {clear : Bool} → clear ≡ true → length (bodyBytes clear e body) ≡ length (escaped body) + 2
-unfolding bodyLength
-length-clear e body {clear} y = ap (λ t. length (bodyBytes t e body)) y ∙ length-body true e body
-
-pub length-plain : (e : EndSign) (body : List ℕ) {clear : Bool} → clear ≡ false → length (bodyBytes clear e body) ≡ length body + 1
-unfolding bodyLength
-length-plain e body {clear} y = ap (λ t. length (bodyBytes t e body)) y ∙ length-body false e body
-
-pub length-framed : (m : Method) (p : Parity) (s : Shape) (e : EndSign) (head body : List ℕ)
-    → length (framedBytes m p s e head body) ≡ length (startSigns s) + length head + length (innerSigns s) + bodyLength (isClear s) body
-unfolding framedBytes bodyBytes
-length-framed m p s e head body =
-    length-map (startSigns s ++ (head ++ (innerSigns s ++ bodyBytes (isClear s) e body))) (sent (isSeven m) p)
-    ∙ length-append (startSigns s) (head ++ (innerSigns s ++ bodyBytes (isClear s) e body))
-    ∙ omega (
-      arith,
-      length-append head (innerSigns s ++ bodyBytes (isClear s) e body),
-      length-append (innerSigns s) (bodyBytes (isClear s) e body),
-      length-body (isClear s) e body,
-    )
-
-pub line-lengths : (m : Method) (p : Parity) (s : Shape) (e : EndSign) (head body : List ℕ)
-    → length (lineOf m p s e head body) ≡ length (startSigns s) + length head + length (innerSigns s) + bodyLength (isClear s) body + checkLength m
-unfolding lineOf
-line-lengths m p s e head body =
-    length-append (framedBytes m p s e head body) (pack (checkOf m p (countedBytes m p s e head body)))
-    ∙ ap₂ _+_ (length-framed m p s e head body) (length-check-of m p (countedBytes m p s e head body))
+-- text and end sign as the rule gives them
+pub framed-parts : (m : Method) (p : Parity) (s : Shape) (e : EndSign) (head body : List ℕ)
+    → framedBytes m p s e head body
+    ≡ map (sent (isSeven m) p) (startSigns s ++ (head ++ (innerSigns s ++ (textBytes (isClear s) body ++ endSigns (isClear s) e))))
+unfolding framedBytes textBytes
+framed-parts m p s e head body = ap (λ l. map (sent (isSeven m) p) (startSigns s ++ (head ++ (innerSigns s ++ l)))) (go (isClear s))
+  where
+    go : (t : Bool) → cond t (escaped body ++ DLE ∷ endByte e ∷ []) (body ++ endByte e ∷ [])
+        ≡ cond t (escaped body) body ++ cond t (DLE ∷ endByte e ∷ []) (endByte e ∷ [])
+    go true = refl
+    go false = refl
 
 pub length-line : (m : Method) (p : Parity) (s : Shape) (e : EndSign) (head body : List ℕ)
-    → length (lineOf m p s e head body) ≡ lineLength m s (length head) body
-unfolding lineLength
-length-line m p s e head body = line-lengths m p s e head body
+    → length (lineOf m p s e head body)
+    ≡ length (startSigns s) + length head + length (innerSigns s) + length (textBytes (isClear s) body) + length (endSigns (isClear s) e) + checkLength m
+unfolding lineOf
+length-line m p s e head body =
+    let text = textBytes (isClear s) body in
+    let ending = endSigns (isClear s) e in
+    length-append (framedBytes m p s e head body) (pack (checkOf m p (countedBytes m p s e head body)))
+    ∙ ap₂ _+_
+    (ap length (framed-parts m p s e head body)
+    ∙ length-map (startSigns s ++ (head ++ (innerSigns s ++ (text ++ ending)))) (sent (isSeven m) p)
+    ∙ length-append (startSigns s) (head ++ (innerSigns s ++ (text ++ ending)))
+    ∙ omega (
+      arith,
+      length-append head (innerSigns s ++ (text ++ ending)),
+      length-append (innerSigns s) (text ++ ending),
+      length-append text ending,
+    ))
+    (length-check-of m p (countedBytes m p s e head body))

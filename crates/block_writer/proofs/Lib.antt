@@ -1,5 +1,2 @@
-pub mod Free
 pub mod Lengths
-pub mod Stores
 pub mod Writing
-pub mod WrittenChecks

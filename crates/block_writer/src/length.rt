@@ -1,38 +1,19 @@
-// Lengths on the line: of the signs, of the text, of the whole.
+// Lengths on the line: of the text, and of the whole.
 use block::DLE;
+use block::EndSign;
 use block::Method;
 use block::Shape;
 use block::check_length;
 use block::is_clear;
+use block_signs::end_signs;
+use block_signs::inner_signs;
+use block_signs::start_signs;
 ghost use mathlib.Core.Path.{_≡_};
-ghost use Prim.Native.Nat.{_+_, _≤_};
+ghost use Prim.Native.Nat.{_≤_};
 ghost use lib.ListN.{length};
 ghost use Rattle.block.specs.Write as rule;
-ghost use Rattle.block_writer.specs.Writing.{bodyLength, lineLength};
-
-fn start_length(shape: Shape) -> usize
-    ensures { λ r. ⌜ r ≡ length (rule.startSigns shape) ⌝ }
-{
-    match shape {
-        Shape::Header => 1,
-        Shape::Text => 1,
-        Shape::HeaderText => 1,
-        Shape::ClearText => 2,
-        Shape::HeaderClearText => 1,
-    }
-}
-
-pub(crate) fn inner_length(shape: Shape) -> usize
-    ensures { λ r. ⌜ r ≡ length (rule.innerSigns shape) ⌝ }
-{
-    match shape {
-        Shape::Header => 0,
-        Shape::Text => 0,
-        Shape::HeaderText => 1,
-        Shape::ClearText => 0,
-        Shape::HeaderClearText => 2,
-    }
-}
+ghost use Rattle.block.specs.declared.Parity as declared;
+ghost use Rattle.block_writer.specs.Writing.{textBytes};
 
 // The length of a clear text with each DLE sent twice.
 fn escaped_length(part: &[u8]) -> usize
@@ -51,22 +32,31 @@ fn escaped_length(part: &[u8]) -> usize
     n
 }
 
-// The length of text and end sign on the line.
-fn body_length(clear: bool, text: &[u8]) -> usize
+fn text_length(clear: bool, text: &[u8]) -> usize
     requires { ⌜ length (now text) ≤ 4096 ⌝ }
-    ensures { λ r. ⌜ r ≡ bodyLength clear (now (text .entry)) ⌝ }
+    ensures { λ r. ⌜ r ≡ length (textBytes clear (now (text .entry))) ⌝ }
 {
     if clear {
-        escaped_length(text) + 2
+        escaped_length(text)
     } else {
-        text.len() + 1
+        text.len()
     }
 }
 
-pub(crate) fn line_length(method: Method, shape: Shape, header: usize, text: &[u8]) -> usize
-    requires { ⌜ (header ≤ 4096) × (length (now text) ≤ 4096) ⌝ }
-    ensures { λ r. ⌜ r ≡ lineLength method shape header (now (text .entry)) ⌝ }
+// The length of the line, which is the same under either parity.
+pub(crate) fn line_length(
+    method: Method,
+    shape: Shape,
+    end: EndSign,
+    header: &[u8],
+    text: &[u8],
+) -> usize
+    requires { ⌜ (length (now header) ≤ 4096) × (length (now text) ≤ 4096) ⌝ }
+    ensures { λ r. ⌜ ((p : declared.Parity) → r ≡ length (rule.lineOf method p shape end (now (header .entry)) (now (text .entry)))) ⌝ }
 {
-    let framing = start_length(shape) + header + inner_length(shape);
-    framing + body_length(is_clear(shape), text) + check_length(method)
+    let clear = is_clear(shape);
+    let signs = start_signs(shape).length
+        + inner_signs(shape).length
+        + end_signs(clear, end).length;
+    signs + header.len() + text_length(clear, text) + check_length(method)
 }

@@ -2,10 +2,7 @@
 // input. A refusal carries document 01's number and leaves every byte of the output; a success changes only the bytes of the
 // line.
 mod length;
-mod parts;
 mod put;
-mod sixteen;
 mod write;
-mod written_check;
 
 pub use write::write_block;

@@ -6,7 +6,7 @@ use lib.ListN.{length}
 use Rattle.block.specs.declared.Mark.the-variants.{End}
 use Rattle.block.specs.declared.Judged.the-variants.{NoStart, OutOfPlace, DleOutOfPlace}
 use Rattle.block_framing.specs.Framings.{addMark, refusal}
-use Rattle.block_framing.proofs.Turns.{Walking, begin, small-add-mark, small-widen, small-marked, on, pass, ends, turned, out, cut-anywhere}
+use Rattle.block_framing.proofs.Turns.{Walking, begin, small-add-mark, small-widen, small-marked, on, pass, ends, turned, out, cut-anywhere, scanned-run, run-within}
 use borrow.Author.Needs.{needs}
 use Rattle.block_framing.proofs.walk.walk.Statement.{statement}
 use Rattle.block_framing.proofs.walk.walk.Tie as tie
@@ -35,35 +35,48 @@ enum-known-k c = search needs
 add-next : tie.Need-add-next Inv-loop μ-loop
 add-next c = omega arith
 
-run-end-requires : tie.Need-run-end-requires Inv-loop μ-loop
-run-end-requires c κs = search needs
+sub-run-of : tie.Need-sub-run-of Inv-loop μ-loop
+sub-run-of c = omega arith
 
-sub-add-run : tie.Need-sub-add-run Inv-loop μ-loop
-sub-add-run c = omega (arith, c .run-end .ensures .on)
+part-run-of-start : tie.Need-part-run-of-start Inv-loop μ-loop
+part-run-of-start c = omega arith
+
+part-run-of-end : tie.Need-part-run-of-end Inv-loop μ-loop
+part-run-of-end c = omega arith
+
+run-of-requires : tie.Need-run-of-requires Inv-loop μ-loop
+run-of-requires c κs = search needs
 
 add-mark-requires : tie.Need-add-mark-requires Inv-loop μ-loop
 add-mark-requires c κs =
-    let l = c .before .before .before .before .before .before .before .before in
+    let l = c .before .before .before .before .before .before .before .before .before in
     small-widen (l .loop .t) (l .loop .i) 16384 (omega (arith, l .loop .inv .within, l .loop .inv .size)) (l .loop .inv .small)
 
 add-run-requires : tie.Need-add-run-requires Inv-loop μ-loop
 add-run-requires c κs =
-    let l = c .before .before .before .before .before .before .before .before .before in (
-      small-marked 16384 (c .before .before .before .k .given .1) (c .add-mark .ensures) (l .loop .inv .small) (omega (arith, c .before .before .before .before .before .before .before .before .loop-test .taken, l .loop .inv .size)),
-      omega (arith, c .before .run-end .ensures .within, l .loop .inv .size),
+    let l = c .before .before .before .before .before .before .before .before .before .before in (
+      small-marked 16384 (c .before .before .before .before .k .given .1) (c .add-mark .ensures) (l .loop .inv .small) (omega (arith, c .before .before .before .before .before .before .before .before .before .loop-test .taken, l .loop .inv .size)),
+      omega (arith, run-within (l .before .before .args .seven) (c .before .before .before .before .k .given .0 .1 .0) (l .before .before .args .line .now) (l .loop .i + 1) (omega arith) (c .before .run-of .ensures), l .loop .inv .size),
     )
 
 start-at-requires : tie.Need-start-at-requires Inv-loop μ-loop
 start-at-requires c κs = search needs
 
+add-i : tie.Need-add-i Inv-loop μ-loop
+add-i c =
+    let l = c .before .before .before .before .before .before .before .before .before .before .before .before in
+    omega (arith, run-within (l .before .before .args .seven) (c .before .before .before .before .before .before .k .given .0 .1 .0) (l .before .before .args .line .now) (l .loop .i + 1) (omega arith) (c .before .before .before .run-of .ensures), l .loop .inv .size)
+
 loop-less : tie.Need-loop-less Inv-loop μ-loop
-loop-less c = omega (arith, c .before .before .before .run-end .ensures .on, c .before .before .before .before .before .before .before .before .before .before .loop-test .taken)
+loop-less c = omega (arith, c .before .before .before .before .before .before .before .before .before .before .before .loop-test .taken)
 
 loop-again : tie.Need-loop-again Inv-loop μ-loop
 loop-again c =
-    let l = c .before .before .before .before .before .before .before .before .before .before .before in
-    pass (on (l .loop .inv) (c .before .before .before .before .before .before .before .before .before .before .loop-test .taken) (c .before .before .before .before .before .before .before .before .character .ensures) (c .before .before .before .before .before .before .before .judge .ensures) (c .before .before .before .before .before .k .given .1) (c .before .before .add-mark .ensures) (c .start-at .ensures))
-    (c .before .before .before .run-end .ensures) (c .before .add-run .ensures)
+    let l = c .before .before .before .before .before .before .before .before .before .before .before .before in
+    let r = c .before .before .before in
+    let below = c .before .before .before .before .before .before .before .before .before .before .before .loop-test .taken in
+    pass _ (on (l .loop .inv) below (c .before .before .before .before .before .before .before .before .before .character .ensures) (c .before .before .before .before .before .before .before .before .judge .ensures) (c .before .before .before .before .before .before .k .given .1) (c .before .before .add-mark .ensures) (c .start-at .ensures))
+    (scanned-run (l .before .before .args .seven) (c .before .before .before .before .before .before .k .given .0 .1 .0) (l .before .before .args .line .now) (l .loop .i + 1) (omega arith) (r .run-of .ensures)) (c .before .add-run .ensures)
 
 enum-known-e : tie.Need-enum-known-e Inv-loop μ-loop
 enum-known-e c = search needs
@@ -138,11 +151,14 @@ walk-spec =
     judge-requires
     enum-known-k
     add-next
-    run-end-requires
-    sub-add-run
+    sub-run-of
+    part-run-of-start
+    part-run-of-end
+    run-of-requires
     add-mark-requires
     add-run-requires
     start-at-requires
+    add-i
     loop-less
     loop-again
     enum-known-e

@@ -1,0 +1,51 @@
+// Question 12 (document 01): the first byte of a line whose parity is wrong.
+use block::Parity;
+use block::parity_right;
+ghost use mathlib.Core.Path.{_≡_};
+ghost use mathlib.Core.Bool.{true};
+ghost use Prim.Native.Nat.{_+_, _≤_};
+ghost use lib.ListN.{length, drop};
+ghost use Rattle.block.specs.Characters.{parityRight};
+ghost use Rattle.block.specs.Scan.{firstFailing, AllPass};
+
+// Whether the parities of the 16 bytes from the place `at` on are right. The compiler takes all 16 at once.
+fn sixteen_right(p: Parity, line: &[u8], at: usize) -> bool
+    requires { ⌜ at + 16 ≤ length (now line) ⌝ }
+    ensures { λ r. ⌜ (r ≡ true → AllPass (parityRight p) (now (line .entry)) at (at + 16)) ⌝ }
+{
+    let mut right = true;
+    let mut i: usize = 0;
+    while i < 16 {
+        right = right & parity_right(p, line[at + i]);
+        i += 1;
+    }
+    right
+}
+
+// A place before which every parity is right, by steps of 16 bytes.
+fn right_up_to(p: Parity, line: &[u8]) -> usize
+    ensures { λ r. ⌜ (r ≤ length (now (line .entry))) × (firstFailing (parityRight p) r (drop r (now (line .entry))) ≡ firstFailing (parityRight p) 0 (now (line .entry))) ⌝ }
+{
+    let mut i = 0;
+    while line.len() - i >= 16 {
+        if !sixteen_right(p, line, i) {
+            return i;
+        }
+        i += 16;
+    }
+    i
+}
+
+// The first place whose parity is wrong, or the length where none is.
+pub fn first_wrong(p: Parity, line: &[u8]) -> usize
+    ensures { λ r. ⌜ r ≡ firstFailing (parityRight p) 0 (now (line .entry)) ⌝ }
+{
+    let mut i = right_up_to(p, line);
+    while i < line.len() {
+        if !parity_right(p, line[i]) {
+            return i;
+        }
+        i += 1;
+    }
+    i
+}

@@ -1,0 +1,52 @@
+-- A byte of a run, as code tests it. Assumes nothing.
+use mathlib.Core.Path.{_≡_, refl, sym, ap, _∙_}
+use Prim.Native.Nat.{ℕ}
+use mathlib.Core.Bool.{Bool, true, false, cond, not, _&&_, _||_}
+use mathlib.Core.List.{List}
+use lib.Dec.{eqb, ltb}
+use borrow.Author.Tests.{ltb-true}
+use Rattle.block.specs.Signs.{SOH, STX, ETX, DLE, SYN, ETB, US, soh, stx, etx, dle, syn, etb, us, other, signOf}
+use Rattle.block.specs.Characters.{character}
+use Rattle.block.specs.Write.{isOther, isFree}
+use Rattle.block.specs.Scan.{firstFailing}
+use Rattle.block.proofs.NoSign.{no-sign, above-none}
+use Rattle.block.proofs.Scans.{scan-same, both}
+use Rattle.block.proofs.SignTests.{dle-test}
+use Rattle.block_scan.specs.Tests.{isPlainByte, isClearByte}
+
+-- what differs from each of seven is none of them
+each-off : (a b c d e f g : Bool)
+    → not a && not b && not c && not d && (not e && not f && not g)
+    ≡ isOther (cond a soh (cond b stx (cond c etx (cond d dle (cond e syn (cond f etb (cond g us other)))))))
+each-off true b c d e f g = refl
+each-off false true c d e f g = refl
+each-off false false true d e f g = refl
+each-off false false false true e f g = refl
+each-off false false false false true f g = refl
+each-off false false false false false true g = refl
+each-off false false false false false false true = refl
+each-off false false false false false false false = refl
+
+module _ (seven low : Bool) (b : ℕ) {c : ℕ} (char : c ≡ character seven b) where
+  pub plain-byte : not (eqb c SOH) && not (eqb c STX) && not (eqb c ETX) && not (eqb c DLE) && (not (eqb c SYN) && not (eqb c ETB) && not (eqb c US)) && (not low || ltb b 0x80)
+      ≡ isPlainByte seven low b
+  unfolding isPlainByte signOf
+  plain-byte =
+      ap (λ t. t && (not low || ltb b 0x80)) (each-off (eqb c SOH) (eqb c STX) (eqb c ETX) (eqb c DLE) (eqb c SYN) (eqb c ETB) (eqb c US))
+      ∙ ap (λ x. isOther (signOf x) && (not low || ltb b 0x80)) char
+
+  -- what is above the greatest sign is none
+  pub above-plain : (ltb US c && (not low || ltb b 0x80)) ≡ true → isPlainByte seven low b ≡ true
+  unfolding isPlainByte
+  above-plain e =
+      let p = both (ltb US c) (not low || ltb b 0x80) e in
+      rw (← char, no-sign c (above-none c (ltb-true US c (p .0))), p .1)
+
+pub clear-byte : (seven : Bool) (b : ℕ) {c : ℕ} → c ≡ character seven b → not (eqb c DLE) ≡ isClearByte seven b
+unfolding isClearByte
+clear-byte seven b char = ap (λ x. not (eqb x DLE)) char ∙ ap not (dle-test (character seven b))
+
+-- the test of a part to be written is the rule's
+pub plain-free : (seven : Bool) (at : ℕ) (part : List ℕ) → firstFailing (isPlainByte false seven) at part ≡ firstFailing (isFree seven) at part
+unfolding isPlainByte isFree character
+plain-free seven at part = scan-same (λ b. refl) at part

@@ -1,0 +1,15 @@
+-- Which bytes a run of data holds. Assumes nothing.
+use Prim.Native.Nat.{ℕ}
+use mathlib.Core.Bool.{Bool, not, _&&_, _||_}
+use lib.Dec.{ltb}
+use Rattle.block.specs.Signs.{signOf, isDle}
+use Rattle.block.specs.Characters.{character}
+use Rattle.block.specs.Write.{isOther}
+
+-- in header and plain text what is no sign; where `low`, only below 80
+unfoldable pub isPlainByte : Bool → Bool → ℕ → Bool
+isPlainByte seven low b = isOther (signOf (character seven b)) && (not low || ltb b 0x80)
+
+-- in clear text all but DLE
+unfoldable pub isClearByte : Bool → ℕ → Bool
+isClearByte seven b = not (isDle (signOf (character seven b)))
