@@ -1,10 +1,12 @@
 -- `enter_words` meets its contract. The loop's invariant: what is left, with what is yet to be added to it, gives the whole.
 -- Assumes nothing.
+use mathlib.Core.Path.{_∙_}
 use Prim.Native.Nat.{_-_, _≤_}
 use native.Mathlib.Omega.{arith}
 use borrow.Author.Needs.{needs}
 use Rattle.division.specs.Generators.{ccitt16}
 use Rattle.division.proofs.Generators.{ccitt16-generator}
+use Rattle.words.proofs.Within.{word-within}
 use Rattle.folding.proofs.Folding.{Words, begin-words, turn-words, all-words}
 use Rattle.ccitt16.specs.Pending.{words256}
 use Rattle.ccitt16.proofs.fold.enter_words.Statement.{statement}
@@ -23,7 +25,7 @@ mul-word-at : tie.Need-mul-word-at Inv-loop μ-loop
 mul-word-at c = omega arith
 
 word-at-requires : tie.Need-word-at-requires Inv-loop μ-loop
-word-at-requires c κs = omega arith
+word-at-requires c κs = tt
 
 enter-word-requires : tie.Need-enter-word-requires Inv-loop μ-loop
 enter-word-requires c κs = search needs
@@ -37,7 +39,7 @@ loop-less c = omega arith
 loop-again : tie.Need-loop-again Inv-loop μ-loop
 loop-again c =
     let word = c .before .before .word-at in
-    (omega arith, turn-words (word .result) (c .enter-word .result) (c .before .before .before .before .loop .inv .1) (omega arith) (word .ensures) (c .enter-word .ensures))
+    (omega arith, turn-words (word .result) (c .enter-word .result) (c .before .before .before .before .loop .inv .1) (omega arith) (word .ensures ∙ word-within _ _ (omega arith)) (c .enter-word .ensures))
 
 returns : tie.Need-returns Inv-loop μ-loop
 returns c = all-words (c .before .loop .inv .1) (omega arith)
