@@ -96,11 +96,15 @@ doubled-append : (t : Bool) (b : ℕ) (bs : List ℕ) → doubled t b bs ≡ dou
 doubled-append true b bs = refl
 doubled-append false b bs = refl
 
-module _ (part : List ℕ) (i : ℕ) where
-  pub escaped-on : i < length part → escaped (drop i part) ≡ doubled (eqb (getD part i 0) DLE) (getD part i 0) [] ++ escaped (drop (i + 1) part)
+module _ (f : ℕ → ℕ) (part : List ℕ) (i : ℕ) where
+  pub escaped-on : i < length part
+      → map f (escaped (drop i part)) ≡ map f (doubled (eqb (getD part i 0) DLE) (getD part i 0) []) ++ map f (escaped (drop (i + 1) part))
   unfolding escaped
-  escaped-on h = rw (drop-cons part i 0 h, add-one) (doubled-append (eqb (getD part i 0) DLE) (getD part i 0) (escaped (drop (suc i) part)))
+  escaped-on h =
+      let b = getD part i 0 in
+      ap (λ l. map f (escaped l)) (drop-on part i h) ∙ ap (map f) (doubled-append (eqb b DLE) b (escaped (drop (i + 1) part)))
+      ∙ map-append f (doubled (eqb b DLE) b []) (escaped (drop (i + 1) part))
 
-  pub escaped-out : length part ≤ i → escaped (drop i part) ≡ []
+  pub escaped-out : length part ≤ i → map f (escaped (drop i part)) ≡ []
   unfolding escaped
-  escaped-out h = ap escaped (drop-of-length-le part h)
+  escaped-out h = ap (λ l. map f (escaped l)) (drop-of-length-le part h)

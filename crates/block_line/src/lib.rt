@@ -1,4 +1,4 @@
-// The line put together from its parts.
+// The line of a block put together from its parts. It takes every input: what has no room in the output is left out.
 use block::EndSign;
 use block::Method;
 use block::Parity;
@@ -13,17 +13,15 @@ use block_signs::start_signs;
 use block_store::store_characters;
 use block_store::store_clear;
 use block_store::store_few;
-ghost use mathlib.Core.Path.{_≡_};
-ghost use mathlib.Core.Bool.{false, _&&_};
 ghost use mathlib.Core.List.{map};
 ghost use Prim.Native.Nat.{_≤_};
 ghost use lib.ListN.{length, take};
 ghost use Rattle.block.specs.Characters as characters;
 ghost use Rattle.block.specs.Write as rule;
 ghost use Rattle.block_store.specs.Store.{Stored};
-ghost use Rattle.block_writer.specs.Writing.{textBytes};
+ghost use Rattle.block_line.specs.Line.{textBytes};
 
-// Signs, or a check. The answer is the next place, as in each function `put_..`.
+// Signs, or a check. The answer is the next place, as of each function here.
 fn put_few(seven: bool, parity: Parity, few: FewBytes, out: &mut [u8], at: usize) -> usize
     requires { ⌜ few .length ≤ length (few .bytes) ⌝ }
     ensures { λ r. ⌜ Stored (now (out .entry)) at (map (characters.sent seven parity) (take (few .length) (few .bytes))) (now (out .exit)) r ⌝ }
@@ -40,17 +38,16 @@ fn put_text(
     out: &mut [u8],
     at: usize,
 ) -> usize
-    requires { ⌜ seven && clear ≡ false ⌝ }
     ensures { λ r. ⌜ Stored (now (out .entry)) at (map (characters.sent seven parity) (textBytes clear (now (text .entry)))) (now (out .exit)) r ⌝ }
 {
     if clear {
-        return store_clear(text, &mut *out, at);
+        return store_clear(seven, parity, text, &mut *out, at);
     }
     store_characters(seven, parity, text, &mut *out, at)
 }
 
 // The whole line from the start of the output on.
-pub(crate) fn put_line(
+pub fn put_line(
     method: Method,
     parity: Parity,
     shape: Shape,
@@ -59,7 +56,6 @@ pub(crate) fn put_line(
     text: &[u8],
     out: &mut [u8],
 ) -> usize
-    requires { ⌜ characters.isSeven method && rule.isClear shape ≡ false ⌝ }
     ensures { λ r. ⌜ Stored (now (out .entry)) 0 (rule.lineOf method parity shape end (now (header .entry)) (now (text .entry))) (now (out .exit)) r ⌝ }
 {
     let seven = is_seven(method);

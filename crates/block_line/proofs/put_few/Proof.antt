@@ -2,8 +2,8 @@
 use mathlib.Core.Path.{sym}
 use lib.Seq.{length-take-le}
 use borrow.Author.Needs.{needs}
-use Rattle.block_writer.proofs.put.put_few.Statement.{statement}
-use Rattle.block_writer.proofs.put.put_few.Tie as tie
+use Rattle.block_line.proofs.put_few.Statement.{statement}
+use Rattle.block_line.proofs.put_few.Tie as tie
 
 array-share-prefix-bytes : tie.Need-array-share-prefix-bytes
 array-share-prefix-bytes c = search needs

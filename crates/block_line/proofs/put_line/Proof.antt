@@ -1,15 +1,10 @@
 -- `put_line` meets its contract: the parts of the line are stored one after the other. Assumes nothing.
-use mathlib.Core.Path.{ap₂, _∙_}
-use mathlib.Core.Bool.{false, _&&_}
 use borrow.Author.Needs.{needs}
-use Rattle.block.specs.Characters.{sent}
-use Rattle.block.specs.Write.{lineOf}
 use Rattle.block_signs.proofs.Few.{holds-within}
-use Rattle.block_store.specs.Store.{Stored}
 use Rattle.block_store.proofs.Stores.{length-stored}
-use Rattle.block_writer.proofs.Writing.{stored-few, line-of}
-use Rattle.block_writer.proofs.put.put_line.Statement.{statement}
-use Rattle.block_writer.proofs.put.put_line.Tie as tie
+use Rattle.block_line.proofs.Lines.{line-of}
+use Rattle.block_line.proofs.put_line.Statement.{statement}
+use Rattle.block_line.proofs.put_line.Tie as tie
 
 -- where all parts are stored
 stored : tie.Need-returns
@@ -21,11 +16,9 @@ stored c =
     let s = h .before .before .before .before in
     let w = s .before .before .before .before in
     let a = w .before .before .before .before .before .args in
-    let f = sent (w .before .is-seven .result) (a .parity) in
     line-of (a .method) (a .parity) (a .shape) (a .end) (a .header .now) (a .text .now) (w .before .is-seven .ensures) (w .is-clear .ensures)
-    (stored-few f (s .before .before .start-signs .ensures) (s .put-few .ensures)) (h .store-characters .ensures) (stored-few f (i .before .before .inner-signs .ensures) (i .put-few2 .ensures))
-    (b .put-text .ensures) (stored-few f (e .before .before .end-signs .ensures) (e .put-few3 .ensures))
-    (stored-few (sent false (a .parity)) (s .before .before .before .written-check .ensures) (c .before .before .put-few4 .ensures))
+    (s .before .before .start-signs .ensures) (i .before .before .inner-signs .ensures) (e .before .before .end-signs .ensures) (s .before .before .before .written-check .ensures)
+    (s .put-few .ensures) (h .store-characters .ensures) (i .put-few2 .ensures) (b .put-text .ensures) (e .put-few3 .ensures) (c .before .before .put-few4 .ensures)
 
 is-seven-requires : tie.Need-is-seven-requires
 is-seven-requires c κs = search needs
@@ -52,9 +45,7 @@ put-few-requires-2 : tie.Need-put-few-requires-2
 put-few-requires-2 c κs = holds-within (c .before .inner-signs .ensures)
 
 put-text-requires : tie.Need-put-text-requires
-put-text-requires c κs =
-    let w = c .before .before .before .before .before .before .before .before .before .before .before .before .before .before .before .before in
-    ap₂ _&&_ (w .before .is-seven .ensures) (w .is-clear .ensures) ∙ w .before .before .before .before .before .pre
+put-text-requires c κs = search needs
 
 end-signs-requires : tie.Need-end-signs-requires
 end-signs-requires c κs = search needs

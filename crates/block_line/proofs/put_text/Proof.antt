@@ -1,13 +1,8 @@
 -- `put_text` meets its contract, in clear text and in plain. Assumes nothing.
-use mathlib.Core.Path.{sym, ap}
-use mathlib.Core.List.{map}
 use borrow.Author.Needs.{needs}
-use Rattle.block.specs.Characters.{sent}
-use Rattle.block_store.proofs.Stores.{stored-as}
-use Rattle.block_writer.specs.Writing.{textBytes}
-use Rattle.block_writer.proofs.Writing.{stored-clear}
-use Rattle.block_writer.proofs.put.put_text.Statement.{statement}
-use Rattle.block_writer.proofs.put.put_text.Tie as tie
+use Rattle.block_line.specs.Line.{textBytes}
+use Rattle.block_line.proofs.put_text.Statement.{statement}
+use Rattle.block_line.proofs.put_text.Tie as tie
 
 store-clear-requires : tie.Need-store-clear-requires
 store-clear-requires c κs = search needs
@@ -16,10 +11,8 @@ same-length : tie.Need-same-length
 same-length c = search needs
 
 returns : tie.Need-returns
-returns c =
-    let k = c .before .before .before .before in
-    let s = k .before .before .before in
-    stored-clear (s .args .seven) (s .args .parity) (s .args .text .now) (s .pre) (k .if1 .taken) (c .before .before .store-clear .ensures)
+unfolding textBytes
+returns c = rw (c .before .before .before .before .if1 .taken) (c .before .before .store-clear .ensures)
 
 store-characters-requires : tie.Need-store-characters-requires
 store-characters-requires c κs = search needs
