@@ -5,8 +5,8 @@ use native.Mathlib.Omega.{arith}
 use borrow.Author.Needs.{needs}
 use Rattle.block.proofs.Scans.{Sixteen, sixteen-begin, sixteen-turn, sixteen-end}
 use Rattle.block_scan.specs.Tests.{isClearByte}
-use Rattle.block_scan.proofs.sixteen_clear.Statement.{statement}
-use Rattle.block_scan.proofs.sixteen_clear.Tie as tie
+use Rattle.block_scan.proofs.clear.sixteen_clear.Statement.{statement}
+use Rattle.block_scan.proofs.clear.sixteen_clear.Tie as tie
 
 abbrev Inv-loop : tie.InvT-loop
 Inv-loop seven part at all₀ i₀ all i = Sixteen all (isClearByte seven) part at i

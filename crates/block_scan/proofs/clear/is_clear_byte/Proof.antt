@@ -1,8 +1,8 @@
 -- `is_clear_byte` meets its contract. Assumes nothing.
 use borrow.Author.Needs.{needs}
 use Rattle.block_scan.proofs.Bytes.{clear-byte}
-use Rattle.block_scan.proofs.is_clear_byte.Statement.{statement}
-use Rattle.block_scan.proofs.is_clear_byte.Tie as tie
+use Rattle.block_scan.proofs.clear.is_clear_byte.Statement.{statement}
+use Rattle.block_scan.proofs.clear.is_clear_byte.Tie as tie
 
 character-requires : tie.Need-character-requires
 character-requires c κs = search needs

@@ -1,7 +1,7 @@
 -- `sixteen_plain` meets its contract: either test, where it passes, is enough by itself. Assumes nothing.
 use borrow.Author.Needs.{needs}
-use Rattle.block_scan.proofs.sixteen_plain.Statement.{statement}
-use Rattle.block_scan.proofs.sixteen_plain.Tie as tie
+use Rattle.block_scan.proofs.plain.sixteen_plain.Statement.{statement}
+use Rattle.block_scan.proofs.plain.sixteen_plain.Tie as tie
 
 all-above-requires : tie.Need-all-above-requires
 all-above-requires c κs = search needs

@@ -6,8 +6,8 @@ use borrow.Author.Needs.{needs}
 use borrow.Author.Tests.{not-false}
 use Rattle.block.proofs.Scans.{Scanned, scan-begin, scan-sixteen}
 use Rattle.block_scan.specs.Tests.{isPlainByte}
-use Rattle.block_scan.proofs.plain_up_to.Statement.{statement}
-use Rattle.block_scan.proofs.plain_up_to.Tie as tie
+use Rattle.block_scan.proofs.plain.plain_up_to.Statement.{statement}
+use Rattle.block_scan.proofs.plain.plain_up_to.Tie as tie
 
 abbrev Inv-loop : tie.InvT-loop
 Inv-loop seven low part i₀ i = Scanned (isPlainByte seven low) part i
