@@ -2,8 +2,8 @@
 use mathlib.Core.Path.{refl}
 use native.Mathlib.Omega.{arith}
 use borrow.Author.Needs.{needs}
-use Rattle.block_signs.proofs.inner_signs.Statement.{statement}
-use Rattle.block_signs.proofs.inner_signs.Tie as tie
+use Rattle.block_signs.proofs.inner.inner_signs.Statement.{statement}
+use Rattle.block_signs.proofs.inner.inner_signs.Tie as tie
 
 enum-told : tie.Need-enum-told
 enum-told c = search needs
