@@ -70,8 +70,10 @@ pub drop-on : (part : List ℕ) (i : ℕ) → i < length part → drop i part �
 drop-on part i h = rw (drop-cons part i 0 h, add-one)
 
 module _ (f : ℕ → ℕ) (part : List ℕ) (i : ℕ) where
-  pub map-on : i < length part → map f (drop i part) ≡ (f (getD part i 0) ∷ []) ++ map f (drop (i + 1) part)
-  map-on h = ap (map f) (drop-on part i h)
+  pub map-turn : {before bytes after : List ℕ} {at next n b : ℕ} → Storing before at bytes after next (map f (drop i part)) → i < length part
+      → b ≡ f (getD part i 0) → n ≡ next + 1 → Storing before at bytes (set after next b) n (map f (drop (i + 1) part))
+  map-turn {after = after} {next = next} {b = b} s h e k =
+      turn s (ap (map f) (drop-on part i h)) (stored-as (ap (λ x. x ∷ []) e) (stored-one b after next k))
 
   -- all characters, or all that have room
   pub map-all : {before bytes after : List ℕ} {at next : ℕ} → Storing before at bytes after next (map f (drop i part))
