@@ -8,6 +8,8 @@ use block::STX;
 use block::SYN;
 use block::US;
 use block::character;
+use block::lesser;
+use block::off_signs;
 ghost use mathlib.Core.Path.{_≡_};
 ghost use mathlib.Core.Bool.{true};
 ghost use Prim.Native.Nat.{_+_, _≤_};
@@ -41,18 +43,22 @@ fn all_above(seven: bool, low: bool, part: &[u8], at: usize) -> bool
     all
 }
 
-// Whether the 16 bytes from the place `at` on are data of header or plain text.
+// Whether the 16 bytes from the place `at` on are data of header or plain text: `least` is 0 where one is a sign. The compiler takes
+// all 16 at once.
 fn all_plain(seven: bool, low: bool, part: &[u8], at: usize) -> bool
     requires { ⌜ at + 16 ≤ length (now part) ⌝ }
     ensures { λ r. ⌜ (r ≡ true → AllPass (isPlainByte seven low) (now (part .entry)) at (at + 16)) ⌝ }
 {
-    let mut all = true;
+    let mut least: u8 = 255;
+    let mut below = true;
     let mut i: usize = 0;
     while i < 16 {
-        all = all & is_plain_byte(seven, low, part[at + i]);
+        let b = part[at + i];
+        least = lesser(least, off_signs(character(seven, b)));
+        below = below & (!low | (b < 0x80));
         i += 1;
     }
-    all
+    below & (least != 0)
 }
 
 // The same, the cheaper test first.

@@ -1,30 +1,38 @@
--- `all_plain` meets its contract. The loop's invariant: where all passed, every byte passed is data. Assumes nothing.
-use mathlib.Core.Path.{sym, _∙_}
+-- `all_plain` meets its contract. The loop's invariant: where no byte was a sign or too high, every byte passed is data. Assumes nothing.
 use Prim.Native.Nat.{_-_}
 use native.Mathlib.Omega.{arith}
+use mathlib.Core.Bool.{not, _&&_}
+use lib.Dec.{eqb}
 use borrow.Author.Needs.{needs}
-use Rattle.block.proofs.Scans.{Sixteen, sixteen-begin, sixteen-turn, sixteen-end}
+use Rattle.block.proofs.Scans.{Sixteen, sixteen-begin, sixteen-next, sixteen-end}
 use Rattle.block_scan.specs.Tests.{isPlainByte}
+use Rattle.block_scan.proofs.Bytes.{least-plain}
 use Rattle.block_scan.proofs.plain.all_plain.Statement.{statement}
 use Rattle.block_scan.proofs.plain.all_plain.Tie as tie
 
 abbrev Inv-loop : tie.InvT-loop
-Inv-loop seven low part at all₀ i₀ all i = Sixteen all (isPlainByte seven low) part at i
+Inv-loop seven low part at least₀ below₀ i₀ least below i = Sixteen (below && not (eqb least 0)) (isPlainByte seven low) part at i
 
 abbrev μ-loop : tie.MeasureT-loop
-μ-loop seven low part at all₀ i₀ all i = 16 - i
+μ-loop seven low part at least₀ below₀ i₀ least below i = 16 - i
 
 loop-holds : tie.Need-loop-holds Inv-loop μ-loop
 loop-holds c = sixteen-begin
 
-add-is-plain-byte : tie.Need-add-is-plain-byte Inv-loop μ-loop
-add-is-plain-byte c = search needs
+add-b : tie.Need-add-b Inv-loop μ-loop
+add-b c = search needs
 
-shared-slice-read-is-plain-byte : tie.Need-shared-slice-read-is-plain-byte Inv-loop μ-loop
-shared-slice-read-is-plain-byte c = search needs
+shared-slice-read-b : tie.Need-shared-slice-read-b Inv-loop μ-loop
+shared-slice-read-b c = search needs
 
-is-plain-byte-requires : tie.Need-is-plain-byte-requires Inv-loop μ-loop
-is-plain-byte-requires c κs = search needs
+character-requires : tie.Need-character-requires Inv-loop μ-loop
+character-requires c κs = search needs
+
+off-signs-requires : tie.Need-off-signs-requires Inv-loop μ-loop
+off-signs-requires c κs = search needs
+
+lesser-requires : tie.Need-lesser-requires Inv-loop μ-loop
+lesser-requires c κs = search needs
 
 add-i : tie.Need-add-i Inv-loop μ-loop
 add-i c = omega arith
@@ -34,8 +42,10 @@ loop-less c = omega arith
 
 loop-again : tie.Need-loop-again Inv-loop μ-loop
 loop-again c =
-    sixteen-turn (c .before .before .before .loop .inv) (c .before .before .loop-test .taken)
-    (λ e. sym (c .is-plain-byte .ensures) ∙ e)
+    let l = c .before .before .before .before .before in
+    let a = l .before .before .args in
+    sixteen-next (l .loop .inv) (c .before .before .before .before .loop-test .taken)
+    (least-plain (a .seven) (a .low) _ (c .before .before .character .ensures) (l .loop .below) (c .before .off-signs .ensures) (c .lesser .ensures))
 
 returns : tie.Need-returns Inv-loop μ-loop
 returns c h = sixteen-end (c .before .loop .inv) (omega arith) h
@@ -47,9 +57,11 @@ all-plain-spec =
     Inv-loop
     μ-loop
     loop-holds
-    add-is-plain-byte
-    shared-slice-read-is-plain-byte
-    is-plain-byte-requires
+    add-b
+    shared-slice-read-b
+    character-requires
+    off-signs-requires
+    lesser-requires
     add-i
     loop-less
     loop-again
