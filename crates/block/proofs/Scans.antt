@@ -95,15 +95,19 @@ module _ {test : ℕ → Bool} {l : List ℕ} {at : ℕ} where
   pub sixteen-begin : Sixteen true test l at 0
   sixteen-begin = record { within = omega arith; passed = λ e k p q. absurd (omega arith) }
 
-  pub sixteen-turn : {all passes : Bool} {i : ℕ} → Sixteen all test l at i → i < 16 → (passes ≡ true → test (getD l (at + i) 0) ≡ true)
-      → Sixteen (all && passes) test l at (i + 1)
-  sixteen-turn {all} {passes} {i} s h here =
+  -- whatever is true only where all passed and the next one does
+  pub sixteen-next : {all next : Bool} {i : ℕ} → Sixteen all test l at i → i < 16 → (next ≡ true → (all ≡ true) × (test (getD l (at + i) 0) ≡ true))
+      → Sixteen next test l at (i + 1)
+  sixteen-next {all} {next} {i} s h here =
       record {
         within = omega arith;
         passed =
-            λ e k p q.
-            below-more (λ j. at ≤ j → test (getD l j 0) ≡ true) (at + i) (λ j r z. s .passed (both all passes e .0) j z r) (λ z. here (both all passes e .1)) k (omega arith) p;
+            λ e k p q. below-more (λ j. at ≤ j → test (getD l j 0) ≡ true) (at + i) (λ j r z. s .passed (here e .0) j z r) (λ z. here e .1) k (omega arith) p;
       }
+
+  pub sixteen-turn : {all passes : Bool} {i : ℕ} → Sixteen all test l at i → i < 16 → (passes ≡ true → test (getD l (at + i) 0) ≡ true)
+      → Sixteen (all && passes) test l at (i + 1)
+  sixteen-turn {all} {passes} s h here = sixteen-next s h (λ e. let b = both all passes e in (b .0, here (b .1)))
 
   pub sixteen-end : {all : Bool} {i : ℕ} → Sixteen all test l at i → 16 ≤ i → all ≡ true → AllPass test l at (at + 16)
   sixteen-end {all} {i} s h e k p q = s .passed e k p (omega (arith, s .within))

@@ -6,7 +6,7 @@ use mathlib.Core.Bool.{Bool, true, false, cond, not, _&&_, _||_}
 use mathlib.Core.List.{List, [], _∷_}
 use lib.Dec.{leb, ltb}
 use lib.ListN.{length}
-use borrow.Author.Tests.{lt-ltb, le-ltb, leb-true, not-true}
+use borrow.Author.Tests.{lt-ltb, le-ltb, leb-true}
 use Rattle.bits.proofs.Tests.{ask-passed}
 use Rattle.block.specs.declared.Shape.{Shape}
 use Rattle.block.specs.Scan.{firstFailing}
@@ -81,7 +81,7 @@ module _ (seven : Bool) (s : Shape) (head body : List ℕ) (next : WriteAnswer) 
   unfolding countedLength
   ask-count q h = ap (λ t. ask t 5 0 next) (sym q ∙ h)
 
--- ---- parts that pass are carried and few enough
+-- ---- parts that pass are short enough
 
 apart : {n v : ℕ} → refusal n v ≡ written [] → ⊥
 apart {n} {v} e = let z : _≡_ {A = ℕ} 0 1 = cc in omega arith
@@ -91,11 +91,11 @@ free-passed seven number [] at e = e
 free-passed seven number (b ∷ rest) at e = free-passed seven number rest (at + 1) (ask-passed (isFree seven b) apart e .1)
 
 pub parts-passed : (seven : Bool) (s : Shape) (head body : List ℕ) → written [] ≡ askParts seven s head body (written [])
-    → (seven && isClear s ≡ false) × (length head ≤ 4096) × (length body ≤ 4096)
+    → (length head ≤ 4096) × (length body ≤ 4096)
 unfolding askParts countedLength
 parts-passed seven s head body e =
     let a = ask-passed (not (seven && isClear s)) apart (sym e) in
     let b = ask-passed ((hasHeader s || isEmpty head) && (hasText s || isEmpty body)) apart (a .1) in
     let c = free-passed seven 3 (cond (isClear s) [] body) 0 (free-passed seven 2 head 0 (b .1)) in
     let l = leb-true (length head + length (innerSigns s) + length body + 1) 4096 (ask-passed (leb (countedLength s head body) 4096) apart c .0) in
-    (not-true (seven && isClear s) (a .0), omega (arith, l), omega (arith, l))
+    (omega (arith, l), omega (arith, l))

@@ -1,15 +1,16 @@
 -- A byte of a run, as code tests it. Assumes nothing.
 use mathlib.Core.Path.{_≡_, refl, sym, ap, _∙_}
-use Prim.Native.Nat.{ℕ}
+use Prim.Native.Nat.{ℕ, zero, suc, _≤_, _<_}
+use native.Mathlib.Omega.{arith}
 use mathlib.Core.Bool.{Bool, true, false, cond, not, _&&_, _||_}
 use mathlib.Core.List.{List}
 use lib.Dec.{eqb, ltb}
-use borrow.Author.Tests.{ltb-true}
-use Rattle.block.specs.Signs.{SOH, STX, ETX, DLE, SYN, ETB, US, soh, stx, etx, dle, syn, etb, us, other, signOf}
+use borrow.Author.Tests.{ltb-true, eqb-false, ne-eqb, not-true}
+use Rattle.block.specs.Signs.{SOH, STX, ETX, DLE, SYN, ETB, US, soh, stx, etx, dle, syn, etb, us, other, signOf, OffSigns}
 use Rattle.block.specs.Characters.{character}
 use Rattle.block.specs.Write.{isOther, isFree}
 use Rattle.block.specs.Scan.{firstFailing}
-use Rattle.block.proofs.NoSign.{no-sign, above-none}
+use Rattle.block.proofs.NoSign.{no-sign, off-none, above-none}
 use Rattle.block.proofs.Scans.{scan-same, both}
 use Rattle.block.proofs.SignTests.{dle-test}
 use Rattle.block_scan.specs.Tests.{isPlainByte, isClearByte}
@@ -27,6 +28,10 @@ each-off false false false false false true g = refl
 each-off false false false false false false true = refl
 each-off false false false false false false false = refl
 
+positive : (n : ℕ) → (n ≡ 0 → ⊥) → 0 < n
+positive zero h = absurd (h refl)
+positive (suc n) h = omega arith
+
 module _ (seven low : Bool) (b : ℕ) {c : ℕ} (char : c ≡ character seven b) where
   pub plain-byte : not (eqb c SOH) && not (eqb c STX) && not (eqb c ETX) && not (eqb c DLE) && (not (eqb c SYN) && not (eqb c ETB) && not (eqb c US)) && (not low || ltb b 0x80)
       ≡ isPlainByte seven low b
@@ -41,6 +46,20 @@ module _ (seven low : Bool) (b : ℕ) {c : ℕ} (char : c ≡ character seven b)
   above-plain e =
       let p = both (ltb US c) (not low || ltb b 0x80) e in
       rw (← char, no-sign c (above-none c (ltb-true US c (p .0))), p .1)
+
+  -- what differs from every sign is none
+  off-plain : OffSigns c → (not low || ltb b 0x80) ≡ true → isPlainByte seven low b ≡ true
+  unfolding isPlainByte
+  off-plain h e = rw (← char, no-sign c (off-none c h), e)
+
+  -- one byte more, where all were below 80 and the least was not 0
+  pub least-plain : (below : Bool) {least next far : ℕ} → (0 < far → OffSigns c) → (next ≤ least) × (next ≤ far)
+      → ((below && (not low || ltb b 0x80)) && not (eqb next 0)) ≡ true → ((below && not (eqb least 0)) ≡ true) × (isPlainByte seven low b ≡ true)
+  least-plain below {least} {next} {far} off h e =
+      let p = both (below && (not low || ltb b 0x80)) (not (eqb next 0)) e in
+      let q = both below (not low || ltb b 0x80) (p .0) in
+      let n : next ≡ 0 → ⊥ = eqb-false next 0 (not-true (eqb next 0) (p .1)) in
+      (rw (q .0, ne-eqb least 0 (λ z. n (omega (arith, h .0)))), off-plain (off (positive far (λ z. n (omega (arith, h .1))))) (q .1))
 
 pub clear-byte : (seven : Bool) (b : ℕ) {c : ℕ} → c ≡ character seven b → not (eqb c DLE) ≡ isClearByte seven b
 unfolding isClearByte

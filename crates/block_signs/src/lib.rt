@@ -6,8 +6,12 @@ use block::SOH;
 use block::STX;
 use block::Shape;
 use block::end_byte;
-ghost use Rattle.block.specs.Write.{startSigns, innerSigns};
+ghost use Rattle.block.specs.Write.{startSigns};
 ghost use Rattle.block_signs.specs.Signs.{Holds, endSigns};
+
+mod inner;
+
+pub use inner::inner_signs;
 
 // Up to two bytes of a line: signs, or a check.
 pub struct FewBytes {
@@ -39,34 +43,6 @@ pub fn start_signs(shape: Shape) -> FewBytes
         Shape::HeaderClearText => FewBytes {
             bytes: [SOH, 0],
             length: 1,
-        },
-    }
-}
-
-// The signs between header and text.
-pub fn inner_signs(shape: Shape) -> FewBytes
-    ensures { λ r. ⌜ Holds (innerSigns shape) (r .bytes) (r .length) ⌝ }
-{
-    match shape {
-        Shape::Header => FewBytes {
-            bytes: [0, 0],
-            length: 0,
-        },
-        Shape::Text => FewBytes {
-            bytes: [0, 0],
-            length: 0,
-        },
-        Shape::HeaderText => FewBytes {
-            bytes: [STX, 0],
-            length: 1,
-        },
-        Shape::ClearText => FewBytes {
-            bytes: [0, 0],
-            length: 0,
-        },
-        Shape::HeaderClearText => FewBytes {
-            bytes: [DLE, STX],
-            length: 2,
         },
     }
 }

@@ -70,8 +70,10 @@ pub drop-on : (part : List ℕ) (i : ℕ) → i < length part → drop i part �
 drop-on part i h = rw (drop-cons part i 0 h, add-one)
 
 module _ (f : ℕ → ℕ) (part : List ℕ) (i : ℕ) where
-  pub map-on : i < length part → map f (drop i part) ≡ (f (getD part i 0) ∷ []) ++ map f (drop (i + 1) part)
-  map-on h = ap (map f) (drop-on part i h)
+  pub map-turn : {before bytes after : List ℕ} {at next n b : ℕ} → Storing before at bytes after next (map f (drop i part)) → i < length part
+      → b ≡ f (getD part i 0) → n ≡ next + 1 → Storing before at bytes (set after next b) n (map f (drop (i + 1) part))
+  map-turn {after = after} {next = next} {b = b} s h e k =
+      turn s (ap (map f) (drop-on part i h)) (stored-as (ap (λ x. x ∷ []) e) (stored-one b after next k))
 
   -- all characters, or all that have room
   pub map-all : {before bytes after : List ℕ} {at next : ℕ} → Storing before at bytes after next (map f (drop i part))
@@ -96,11 +98,15 @@ doubled-append : (t : Bool) (b : ℕ) (bs : List ℕ) → doubled t b bs ≡ dou
 doubled-append true b bs = refl
 doubled-append false b bs = refl
 
-module _ (part : List ℕ) (i : ℕ) where
-  pub escaped-on : i < length part → escaped (drop i part) ≡ doubled (eqb (getD part i 0) DLE) (getD part i 0) [] ++ escaped (drop (i + 1) part)
+module _ (f : ℕ → ℕ) (part : List ℕ) (i : ℕ) where
+  pub escaped-on : i < length part
+      → map f (escaped (drop i part)) ≡ map f (doubled (eqb (getD part i 0) DLE) (getD part i 0) []) ++ map f (escaped (drop (i + 1) part))
   unfolding escaped
-  escaped-on h = rw (drop-cons part i 0 h, add-one) (doubled-append (eqb (getD part i 0) DLE) (getD part i 0) (escaped (drop (suc i) part)))
+  escaped-on h =
+      let b = getD part i 0 in
+      ap (λ l. map f (escaped l)) (drop-on part i h) ∙ ap (map f) (doubled-append (eqb b DLE) b (escaped (drop (i + 1) part)))
+      ∙ map-append f (doubled (eqb b DLE) b []) (escaped (drop (i + 1) part))
 
-  pub escaped-out : length part ≤ i → escaped (drop i part) ≡ []
+  pub escaped-out : length part ≤ i → map f (escaped (drop i part)) ≡ []
   unfolding escaped
-  escaped-out h = ap escaped (drop-of-length-le part h)
+  escaped-out h = ap (λ l. map f (escaped l)) (drop-of-length-le part h)

@@ -104,24 +104,25 @@ fn store_one(b: u8, out: &mut [u8], at: usize) -> usize
 }
 
 // One byte of clear text, DLE twice.
-fn store_escaped(b: u8, out: &mut [u8], at: usize) -> usize
-    ensures { λ r. ⌜ Stored (now (out .entry)) at (rule.doubled (eqb b signs.DLE) b []) (now (out .exit)) r ⌝ }
+fn store_escaped(seven: bool, parity: Parity, b: u8, out: &mut [u8], at: usize) -> usize
+    ensures { λ r. ⌜ Stored (now (out .entry)) at (map (characters.sent seven parity) (rule.doubled (eqb b signs.DLE) b [])) (now (out .exit)) r ⌝ }
 {
+    let byte = sent(seven, parity, b);
+    let next = store_one(byte, &mut *out, at);
     if b == DLE {
-        let next = store_one(b, &mut *out, at);
-        return store_one(b, &mut *out, next);
+        return store_one(byte, &mut *out, next);
     }
-    store_one(b, &mut *out, at)
+    next
 }
 
 // Clear text, each DLE twice.
-pub fn store_clear(part: &[u8], out: &mut [u8], at: usize) -> usize
-    ensures { λ r. ⌜ Stored (now (out .entry)) at (rule.escaped (now (part .entry))) (now (out .exit)) r ⌝ }
+pub fn store_clear(seven: bool, parity: Parity, part: &[u8], out: &mut [u8], at: usize) -> usize
+    ensures { λ r. ⌜ Stored (now (out .entry)) at (map (characters.sent seven parity) (rule.escaped (now (part .entry)))) (now (out .exit)) r ⌝ }
 {
     let mut i = 0;
     let mut next = at;
     while i < part.len() {
-        next = store_escaped(part[i], &mut *out, next);
+        next = store_escaped(seven, parity, part[i], &mut *out, next);
         i += 1;
     }
     next

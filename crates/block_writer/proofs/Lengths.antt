@@ -20,7 +20,8 @@ use Rattle.block.specs.Check.{checkOf, checkLength}
 use Rattle.block.specs.Write.{isClear, startSigns, innerSigns, doubled, escaped, countedBytes, framedBytes, lineOf}
 use Rattle.block.proofs.CheckLaws.{length-check-of}
 use Rattle.block_signs.specs.Signs.{endSigns}
-use Rattle.block_writer.specs.Writing.{textBytes}
+use Rattle.block_line.specs.Line.{textBytes}
+use Rattle.block_line.proofs.Lines.{framed-parts}
 
 -- ---- escaped text: a loop that counts it up
 
@@ -69,18 +70,6 @@ unfolding escaped
 count-all {part} {n} k h = omega (arith, k .rest, ap (λ l. length (escaped l)) (drop-of-length-le part h))
 
 -- ---- the line
-
--- text and end sign as the rule gives them
-pub framed-parts : (m : Method) (p : Parity) (s : Shape) (e : EndSign) (head body : List ℕ)
-    → framedBytes m p s e head body
-    ≡ map (sent (isSeven m) p) (startSigns s ++ (head ++ (innerSigns s ++ (textBytes (isClear s) body ++ endSigns (isClear s) e))))
-unfolding framedBytes textBytes
-framed-parts m p s e head body = ap (λ l. map (sent (isSeven m) p) (startSigns s ++ (head ++ (innerSigns s ++ l)))) (go (isClear s))
-  where
-    go : (t : Bool) → cond t (escaped body ++ DLE ∷ endByte e ∷ []) (body ++ endByte e ∷ [])
-        ≡ cond t (escaped body) body ++ cond t (DLE ∷ endByte e ∷ []) (endByte e ∷ [])
-    go true = refl
-    go false = refl
 
 pub length-line : (m : Method) (p : Parity) (s : Shape) (e : EndSign) (head body : List ℕ)
     → length (lineOf m p s e head body)

@@ -13,7 +13,7 @@ ghost use Prim.Native.Nat.{_≤_};
 ghost use lib.ListN.{length};
 ghost use Rattle.block.specs.Write as rule;
 ghost use Rattle.block.specs.declared.Parity as declared;
-ghost use Rattle.block_writer.specs.Writing.{textBytes};
+ghost use Rattle.block_line.specs.Line.{textBytes};
 
 // The length of a clear text with each DLE sent twice.
 fn escaped_length(part: &[u8]) -> usize

@@ -2,7 +2,6 @@
 // input. A refusal carries document 01's number and leaves every byte of the output; a success changes only the bytes of the
 // line.
 mod length;
-mod put;
 mod write;
 
 pub use write::write_block;

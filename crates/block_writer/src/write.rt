@@ -1,6 +1,5 @@
 // Writing a block: questions 1, 4, 2, 3, 5, 6, then the line.
 use crate::length::line_length;
-use crate::put::put_line;
 use block::BlockWritten;
 use block::EndSign;
 use block::Method;
@@ -8,14 +7,13 @@ use block::Parity;
 use block::Shape;
 use block::WriteRefusal;
 use block::is_seven;
+use block_line::put_line;
 use block_parts::PartsAsked;
 use block_parts::ask_parts;
 ghost use mathlib.Core.Path.{_≡_};
-ghost use mathlib.Core.Bool.{false, _&&_};
 ghost use Prim.Native.Nat.{_≤_};
 ghost use lib.ListN.{length};
 ghost use Rattle.bits.specs.Calls.{called};
-ghost use Rattle.block.specs.Characters as characters;
 ghost use Rattle.block.specs.Write as rule;
 ghost use Rattle.block.specs.Answers.{ofWritten, afterWriting, writeCall};
 ghost use Rattle.block_writer.specs.Writing.{askRoom};
@@ -30,7 +28,7 @@ fn write_line(
     text: &[u8],
     out: &mut [u8],
 ) -> BlockWritten
-    requires { ⌜ (characters.isSeven method && rule.isClear shape ≡ false) × (length (now header) ≤ 4096) × (length (now text) ≤ 4096) ⌝ }
+    requires { ⌜ (length (now header) ≤ 4096) × (length (now text) ≤ 4096) ⌝ }
     ensures { λ r. ⌜ called (ofWritten r) (now (out .exit)) ≡ afterWriting (askRoom (rule.lineOf method parity shape end (now (header .entry)) (now (text .entry))) (length (now (out .entry)))) (now (out .entry)) ⌝ }
 {
     let needed = line_length(method, shape, end, header, text);

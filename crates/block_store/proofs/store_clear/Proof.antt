@@ -2,18 +2,21 @@
 -- Assumes nothing.
 use Prim.Native.Nat.{_-_}
 use native.Mathlib.Omega.{arith}
+use mathlib.Core.List.{map}
 use lib.ListN.{length, drop}
 use borrow.Author.Needs.{needs}
+use Rattle.block.specs.Characters.{sent}
 use Rattle.block.specs.Write.{escaped}
 use Rattle.block_store.proofs.Stores.{Storing, begin, turn, whole, escaped-on, escaped-out}
 use Rattle.block_store.proofs.store_clear.Statement.{statement}
 use Rattle.block_store.proofs.store_clear.Tie as tie
 
 abbrev Inv-loop : tie.InvT-loop
-Inv-loop part out₀ at i₀ next₀ out i next = Storing out₀ at (escaped part) out next (escaped (drop i part))
+Inv-loop seven parity part out₀ at i₀ next₀ out i next =
+    Storing out₀ at (map (sent seven parity) (escaped part)) out next (map (sent seven parity) (escaped (drop i part)))
 
 abbrev μ-loop : tie.MeasureT-loop
-μ-loop part out₀ at i₀ next₀ out i next = length part - i
+μ-loop seven parity part out₀ at i₀ next₀ out i next = length part - i
 
 loop-holds : tie.Need-loop-holds Inv-loop μ-loop
 loop-holds c = begin
@@ -33,7 +36,9 @@ loop-less c = omega arith
 loop-again : tie.Need-loop-again Inv-loop μ-loop
 loop-again c =
     let l = c .before .before .before .before .before .before in
-    turn (l .loop .inv) (escaped-on (l .before .before .before .args .part .now) (l .loop .i) (c .before .before .before .before .before .loop-test .taken))
+    let a = l .before .before .before .args in
+    turn (l .loop .inv)
+    (escaped-on (sent (a .seven) (a .parity)) (a .part .now) (l .loop .i) (c .before .before .before .before .before .loop-test .taken))
     (c .before .before .store-escaped .ensures)
 
 same-length : tie.Need-same-length Inv-loop μ-loop
@@ -42,7 +47,8 @@ same-length c = c .before .loop .inv .same
 returns : tie.Need-returns Inv-loop μ-loop
 returns c =
     let l = c .before in
-    whole (l .loop .inv) (escaped-out (l .before .before .before .args .part .now) (l .loop .i) (c .loop-test .left))
+    let a = l .before .before .before .args in
+    whole (l .loop .inv) (escaped-out (sent (a .seven) (a .parity)) (a .part .now) (l .loop .i) (c .loop-test .left))
 
 pub store-clear-spec : {M : Type 1} → statement M
 store-clear-spec =

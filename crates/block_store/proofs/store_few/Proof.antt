@@ -1,14 +1,13 @@
 -- `store_few` meets its contract. The loop's invariant: what is left to store gives the whole. The measure is what is left.
 -- Assumes nothing.
-use mathlib.Core.Path.{ap}
 use Prim.Native.Nat.{_+_, _-_, _≤_}
 use native.Mathlib.Nat.{add-zero}
 use native.Mathlib.Omega.{arith}
-use mathlib.Core.List.{[], _∷_, map}
+use mathlib.Core.List.{map}
 use lib.ListN.{drop}
 use borrow.Author.Needs.{needs}
 use Rattle.block.specs.Characters.{sent}
-use Rattle.block_store.proofs.Stores.{Storing, begin, turn, stored-as, stored-one, map-on, map-all}
+use Rattle.block_store.proofs.Stores.{Storing, begin, map-turn, map-all}
 use Rattle.block_store.proofs.store_few.Statement.{statement}
 use Rattle.block_store.proofs.store_few.Tie as tie
 
@@ -48,11 +47,9 @@ loop-less c = omega arith
 loop-again : tie.Need-loop-again Inv-loop μ-loop
 loop-again c =
     let l = c .before .before .before in
-    let a = l .before .before .before .before .args in
-    let i = l .loop .i in (
+    let a = l .before .before .before .before .args in (
       omega arith,
-      turn (l .loop .inv .1) (map-on (sent (a .seven) (a .parity)) (a .part .now) i (omega (arith, l .before .fitting .ensures .0)))
-          (stored-as (ap (λ b. b ∷ []) (c .sent .ensures)) (stored-one (c .sent .result) (l .loop .out) (a .at + i) (omega arith))),
+      map-turn (sent (a .seven) (a .parity)) (a .part .now) (l .loop .i) (l .loop .inv .1) (omega (arith, l .before .fitting .ensures .0)) (c .sent .ensures) (omega arith),
     )
 
 add-result : tie.Need-add-result Inv-loop μ-loop

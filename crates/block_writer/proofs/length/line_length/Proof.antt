@@ -5,7 +5,7 @@ use lib.ListN.{length}
 use borrow.Author.Needs.{needs}
 use Rattle.block.proofs.CheckLaws.{check-short}
 use Rattle.block_signs.specs.Signs.{endSigns}
-use Rattle.block_writer.specs.Writing.{textBytes}
+use Rattle.block_line.specs.Line.{textBytes}
 use Rattle.block_writer.proofs.Lengths.{text-short, length-line}
 use Rattle.block_writer.proofs.length.line_length.Statement.{statement}
 use Rattle.block_writer.proofs.length.line_length.Tie as tie

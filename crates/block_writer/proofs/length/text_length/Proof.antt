@@ -1,7 +1,7 @@
 -- `text_length` meets its contract. Assumes nothing.
 use mathlib.Core.Path.{refl}
 use borrow.Author.Needs.{needs}
-use Rattle.block_writer.specs.Writing.{textBytes}
+use Rattle.block_line.specs.Line.{textBytes}
 use Rattle.block_writer.proofs.length.text_length.Statement.{statement}
 use Rattle.block_writer.proofs.length.text_length.Tie as tie
 
