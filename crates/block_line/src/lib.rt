@@ -1,4 +1,4 @@
-// The line of a block put together from its parts. It takes every input: what has no room in the output is left out.
+// The line of a block put together from its parts: `put_line` takes every input, and leaves out what has no room in the output.
 use block::EndSign;
 use block::Method;
 use block::Parity;
@@ -12,7 +12,7 @@ use block_signs::inner_signs;
 use block_signs::start_signs;
 use block_store::store_characters;
 use block_store::store_clear;
-use block_store::store_few;
+use block_store::store_each;
 ghost use mathlib.Core.List.{map};
 ghost use Prim.Native.Nat.{_≤_};
 ghost use lib.ListN.{length, take};
@@ -27,7 +27,7 @@ fn put_few(seven: bool, parity: Parity, few: FewBytes, out: &mut [u8], at: usize
     ensures { λ r. ⌜ Stored (now (out .entry)) at (map (characters.sent seven parity) (take (few .length) (few .bytes))) (now (out .exit)) r ⌝ }
 {
     let bytes = few.bytes;
-    store_few(seven, parity, &bytes[..few.length], &mut *out, at)
+    store_each(seven, parity, &bytes[..few.length], &mut *out, at)
 }
 
 fn put_text(

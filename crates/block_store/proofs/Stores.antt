@@ -21,7 +21,7 @@ sets-out (x ∷ xs) l n h = sets-out xs (set l n x) (suc n) (omega (arith, lengt
 
 -- ---- stores one after the other
 
-pub stored-none : {out : List ℕ} {at : ℕ} → Stored out at [] out at
+stored-none : {out : List ℕ} {at : ℕ} → Stored out at [] out at
 stored-none = record { behind = λ rest. refl }
 
 pub stored-as : {xs ys a b : List ℕ} {i j : ℕ} → xs ≡ ys → Stored a i xs b j → Stored a i ys b j

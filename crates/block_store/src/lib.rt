@@ -1,5 +1,5 @@
-// Bytes of a line stored in the output one after the other: characters with their parity, and clear text. Each function takes every
-// input: what has no room behind the place `at` is left out. It answers the next place.
+// Bytes of a line stored in the output from a place `at` on: characters with their parity, and clear text. Each public function
+// takes every input: what has no room in the output is left out. It answers the next place.
 use block::DLE;
 use block::Parity;
 use block::with_parity;
@@ -20,7 +20,7 @@ fn sent(seven: bool, p: Parity, b: u8) -> u8
     if seven { with_parity(p, b) } else { b }
 }
 
-// How many of as many bytes have room behind the place `at`.
+// How many of `bytes` bytes have room from the place `at` on.
 fn fitting(bytes: usize, room: usize, at: usize) -> usize
     ensures { λ r. ⌜ (r ≤ bytes) × (r ≤ room - at) × (r < bytes → room ≤ at + r) ⌝ }
 {
@@ -33,8 +33,8 @@ fn fitting(bytes: usize, room: usize, at: usize) -> usize
     room - at
 }
 
-// Characters one by one, each with its parity bit in methods 1 and 2: for signs and checks, which are one or two.
-pub fn store_few(seven: bool, parity: Parity, part: &[u8], out: &mut [u8], at: usize) -> usize
+// Characters one by one, each with its parity bit in methods 1 and 2. Signs and checks are stored so: they are one or two bytes.
+pub fn store_each(seven: bool, parity: Parity, part: &[u8], out: &mut [u8], at: usize) -> usize
     ensures { λ r. ⌜ Stored (now (out .entry)) at (map (characters.sent seven parity) (now (part .entry))) (now (out .exit)) r ⌝ }
 {
     let n = fitting(part.len(), out.len(), at);
@@ -85,14 +85,14 @@ pub fn store_characters(
     ensures { λ r. ⌜ Stored (now (out .entry)) at (map (characters.sent seven parity) (now (part .entry))) (now (out .exit)) r ⌝ }
 {
     if fitting(part.len(), out.len(), at) / 16 != 1 {
-        return store_few(seven, parity, part, &mut *out, at);
+        return store_each(seven, parity, part, &mut *out, at);
     }
     let bytes = sixteen_sent(seven, parity, part);
     let next = store_sixteen(&bytes, &mut *out, at);
-    store_few(seven, parity, &part[16..], &mut *out, next)
+    store_each(seven, parity, &part[16..], &mut *out, next)
 }
 
-// One byte.
+// Stores one byte where there is room.
 fn store_one(b: u8, out: &mut [u8], at: usize) -> usize
     ensures { λ r. ⌜ Stored (now (out .entry)) at (b ∷ []) (now (out .exit)) r ⌝ }
 {

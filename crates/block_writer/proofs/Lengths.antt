@@ -1,10 +1,10 @@
 -- Lengths: of escaped text and of the line. Assumes nothing.
-use mathlib.Core.Path.{_≡_, refl, ap, ap₂, _∙_}
+use mathlib.Core.Path.{_≡_, ap, ap₂, _∙_}
 use Prim.Native.Nat.{ℕ, suc, _+_, _*_, _≤_, _<_}
 use native.Mathlib.Numerals.{add-one}
 use native.Mathlib.Omega.{arith}
 use mathlib.Core.Bool.{Bool, true, false, cond}
-use mathlib.Core.List.{List, [], _∷_, _++_, map}
+use mathlib.Core.List.{List, [], _∷_, _++_}
 use lib.Dec.{eqb}
 use lib.ListN.{length, getD, drop, length-append, length-map, drop-of-length-le}
 use lib.Seq.{drop-cons}
@@ -14,7 +14,7 @@ use Rattle.block.specs.declared.Method.{Method}
 use Rattle.block.specs.declared.Parity.{Parity}
 use Rattle.block.specs.declared.Shape.{Shape}
 use Rattle.block.specs.declared.EndSign.{EndSign}
-use Rattle.block.specs.Signs.{DLE, endByte}
+use Rattle.block.specs.Signs.{DLE}
 use Rattle.block.specs.Characters.{isSeven, sent}
 use Rattle.block.specs.Check.{checkOf, checkLength}
 use Rattle.block.specs.Write.{isClear, startSigns, innerSigns, doubled, escaped, countedBytes, framedBytes, lineOf}

@@ -1,20 +1,17 @@
 -- Question 6, and the questions before it: the answer is the rule's. Assumes nothing.
-use mathlib.Core.Path.{_≡_, refl, sym, ap, ap₂, _∙_}
+use mathlib.Core.Path.{_≡_, sym, ap, ap₂, _∙_}
 use Prim.Native.Nat.{ℕ, _≤_, _<_}
-use mathlib.Core.Bool.{Bool, true, false, cond, _&&_}
-use mathlib.Core.List.{List, [], _∷_, _++_, map}
-use lib.Dec.{leb}
-use lib.ListN.{length, take}
+use mathlib.Core.Bool.{Bool, cond}
+use mathlib.Core.List.{List, []}
+use lib.ListN.{length}
 use borrow.Author.Tests.{le-leb, lt-leb}
-use Rattle.bits.specs.Bytes.{pack}
 use Rattle.bits.specs.Calls.{called}
 use Rattle.block.specs.declared.Method.{Method}
 use Rattle.block.specs.declared.Parity.{Parity}
 use Rattle.block.specs.declared.Shape.{Shape}
 use Rattle.block.specs.declared.EndSign.{EndSign}
-use Rattle.block.specs.Characters.{isSeven, sent}
-use Rattle.block.specs.Check.{checkOf}
-use Rattle.block.specs.Write.{isClear, startSigns, innerSigns, escaped, countedBytes, framedBytes, lineOf, WriteAnswer, written, refusal, writeBlock, writeOutput}
+use Rattle.block.specs.Characters.{isSeven}
+use Rattle.block.specs.Write.{lineOf, WriteAnswer, written, refusal, writeBlock, writeOutput}
 use Rattle.block.specs.declared.WriteRefusal.{WriteRefusal}
 use Rattle.block.specs.Answers.{Numbers, line, refused, writeNumber, writeValue, afterWriting, writeCall}
 use Rattle.block_store.specs.Store.{Stored}

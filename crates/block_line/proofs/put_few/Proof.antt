@@ -8,14 +8,14 @@ use Rattle.block_line.proofs.put_few.Tie as tie
 array-share-prefix-bytes : tie.Need-array-share-prefix-bytes
 array-share-prefix-bytes c = search needs
 
-slice-aggregate-store-few : tie.Need-slice-aggregate-store-few
-slice-aggregate-store-few c =
+slice-aggregate-store-each : tie.Need-slice-aggregate-store-each
+slice-aggregate-store-each c =
     let s = c .before .before .before in
     let few = s .args .few in
     sym (length-take-le (few .length) (few .bytes) (s .pre))
 
-store-few-requires : tie.Need-store-few-requires
-store-few-requires c κs = search needs
+store-each-requires : tie.Need-store-each-requires
+store-each-requires c κs = search needs
 
 same-length : tie.Need-same-length
 same-length c = search needs
@@ -28,7 +28,7 @@ put-few-spec =
     tie.close
     (tie.spec
     array-share-prefix-bytes
-    slice-aggregate-store-few
-    store-few-requires
+    slice-aggregate-store-each
+    store-each-requires
     same-length
     returns)

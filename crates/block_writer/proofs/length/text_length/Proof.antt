@@ -1,5 +1,4 @@
 -- `text_length` meets its contract. Assumes nothing.
-use mathlib.Core.Path.{refl}
 use borrow.Author.Needs.{needs}
 use Rattle.block_line.specs.Line.{textBytes}
 use Rattle.block_writer.proofs.length.text_length.Statement.{statement}

@@ -1,4 +1,4 @@
--- `store_few` meets its contract. The loop's invariant: what is left to store gives the whole. The measure is what is left.
+-- `store_each` meets its contract. The loop's invariant: what is left to store gives the whole. The measure is what is left.
 -- Assumes nothing.
 use Prim.Native.Nat.{_+_, _-_, _≤_}
 use native.Mathlib.Nat.{add-zero}
@@ -8,8 +8,8 @@ use lib.ListN.{drop}
 use borrow.Author.Needs.{needs}
 use Rattle.block.specs.Characters.{sent}
 use Rattle.block_store.proofs.Stores.{Storing, begin, map-turn, map-all}
-use Rattle.block_store.proofs.store_few.Statement.{statement}
-use Rattle.block_store.proofs.store_few.Tie as tie
+use Rattle.block_store.proofs.store_each.Statement.{statement}
+use Rattle.block_store.proofs.store_each.Tie as tie
 
 abbrev Inv-loop : tie.InvT-loop
 Inv-loop seven parity part out₀ at n i₀ out i =
@@ -65,8 +65,8 @@ returns c =
     map-all (sent (a .seven) (a .parity)) (a .part .now) (l .loop .i) (l .loop .inv .1)
     (λ h. omega (arith, l .before .fitting .ensures .2 (omega arith), l .loop .inv .1 .same))
 
-pub store-few-spec : {M : Type 1} → statement M
-store-few-spec =
+pub store-each-spec : {M : Type 1} → statement M
+store-each-spec =
     tie.close
     (tie.spec
     Inv-loop
