@@ -21,9 +21,8 @@ use Rattle.block.specs.Walk.{judge}
 use Rattle.block.specs.Walk.{ended, Walked, onward, walk}
 use Rattle.block.specs.Marks.{isHeader, isText, sift, counted, hasInner, shapeOf}
 use Rattle.block.specs.Write.{isClear}
-use Rattle.block_framing.specs.declared.Tally.{Tally}
 use Rattle.block_framing.specs.declared.Segments.{Segments}
-use Rattle.block_framing.specs.Framings.{noTally, addMark, tallied, startOf, segments, framingAt}
+use Rattle.block_framing.specs.Framings.{Tally, noTally, addMark, tallied, startOf, segments, framingAt}
 use Rattle.block_framing.specs.Framings.{keptBytes, headerIn, textIn, countedIn, Segmented}
 use Rattle.block_framing.proofs.TextWalk.{Part}
 use Rattle.block_framing.proofs.HeaderWalk.{not-zero, inner-kept, Kind, header-alone, header-plain, header-clear, Headed, Line, plain, clear, headed, filled, line-of}

@@ -18,8 +18,9 @@ use Rattle.block.specs.Characters.{character}
 use Rattle.block.specs.Walk.{inStart, inStartDle, inHeader, inHeaderDle}
 use Rattle.block.specs.Walk.{ended, Walked, onward, walk}
 use Rattle.block.specs.Marks.{isHeader, isText, sift, counted, hasInner}
-use Rattle.block_framing.specs.declared.Tally.{Tally}
-use Rattle.block_framing.specs.Framings.{firstOf, tallied, startOf, keptBytes}
+use Rattle.block_framing.specs.declared.LeftOuts.{LeftOuts}
+use Rattle.block_framing.specs.Walks.{leave, leaves}
+use Rattle.block_framing.specs.Framings.{Tally, firstOf, tallied, startOf, keptBytes}
 use Rattle.block_framing.proofs.KeptBySign.{kept-plain}
 use Rattle.block_framing.proofs.TextWalk.{Part, part-end, no-end, Closed, text-walk, clear-walk}
 
@@ -44,6 +45,21 @@ inner-kept t at (TextByte ∷ ks) h = inner-kept _ (at + 1) ks h
 inner-kept t at (InnerStart ∷ ks) h = absurd (true≢false h)
 inner-kept t at (End ∷ ks) h = inner-kept _ (at + 1) ks h
 
+before-kept : (t : LeftOuts) (at : ℕ) (ks : List Mark) → hasInner ks ≡ false → leaves t at ks .before ≡ t .before
+before-kept t at [] h = refl
+before-kept t at (LeftOut ∷ ks) h = before-kept _ (at + 1) ks h
+before-kept t at (HeaderByte ∷ ks) h = before-kept _ (at + 1) ks h
+before-kept t at (TextByte ∷ ks) h = before-kept _ (at + 1) ks h
+before-kept t at (InnerStart ∷ ks) h = absurd (true≢false h)
+before-kept t at (End ∷ ks) h = before-kept _ (at + 1) ks h
+
+-- the first inner start notes how many bytes were left out before it, a second one nothing
+leave-first : (t : LeftOuts) (at : ℕ) → t .inner ≡ 0 → leave InnerStart at t ≡ record { inner = at; before = t .all; all = t .all }
+leave-first t at z = rw z
+
+leave-second : (t : LeftOuts) (at : ℕ) → 0 < t .inner → leave InnerStart at t ≡ t
+leave-second t at h = rw (not-zero (t .inner) (t .inner - 1) (omega arith))
+
 -- ---- the walk over a header
 
 -- the field of the end sign of a line with a header, whether its text is clear, and how long its inner start is
@@ -53,7 +69,7 @@ pub data Kind : Field → Bool → ℕ → Type 0 where
   header-clear : Kind ClearDle true 2
 
 -- what is left of a line from its header on: `head`, the inner start, and a part with its marks; `place`: where the inner start
--- stands
+-- stands; `lefts`: how many bytes were left out before it
 pub record Headed (seven : Bool) (f : Field) (l : List ℕ) (ks : List Mark) : Type 0 where
   pub clear : Bool
   pub wide : ℕ
@@ -72,6 +88,7 @@ pub record Headed (seven : Bool) (f : Field) (l : List ℕ) (ks : List Mark) : T
   pub counts : counted ks l ≡ keptBytes false seven false head ++ (inner ++ counted marks tail)
   pub has : hasInner ks ≡ not (eqb wide 0)
   pub place : (t : Tally) (at : ℕ) → t .inner ≡ 0 → 0 < at → tallied t at ks .inner ≡ cond (eqb wide 0) 0 (at + length head)
+  pub lefts : (t : LeftOuts) (at : ℕ) → t .inner ≡ 0 → 0 < at → 0 < wide → leaves t at ks .before + length (sift isHeader ks l) ≡ t .all + length head
 
 headed-end : (seven : Bool) (f : Field) (b : ℕ) (rest : List ℕ) → f ≡ Header → Headed seven f (b ∷ rest) (End ∷ [])
 unfolding keptBytes
@@ -94,6 +111,7 @@ headed-end seven f b rest g =
       counts = refl;
       has = refl;
       place = λ t at z n. z;
+      lefts = λ t at z n w. absurd (omega arith);
     }
 
 headed-plain : (seven : Bool) (f : Field) (b : ℕ) (l : List ℕ) (w : Walked) → Closed false seven Text f l w
@@ -118,6 +136,11 @@ headed-plain seven f b l w p =
       counts = refl;
       has = refl;
       place = λ t at z n. inner-kept _ (at + 1) (w .marks) (p .part .inner) ∙ ap (λ i. firstOf i at) z ∙ sym (add-zero at);
+      lefts =
+          λ t at z n v.
+          let k : leaves (leave InnerStart at t) (at + 1) (w .marks) .before ≡ t .all =
+          before-kept (leave InnerStart at t) (at + 1) (w .marks) (p .part .inner) ∙ ap (λ u. u .before) (leave-first t at z) in
+          omega (arith, k, ap length (p .part .headers));
     }
 
 headed-clear : (f : Field) (b c : ℕ) (l : List ℕ) (w : Walked) → Closed true false ClearDle f l w
@@ -147,6 +170,13 @@ headed-clear f b c l w p =
           ∙ ap (λ i. firstOf (firstOf i at) (at + 1)) z
           ∙ first-stays at (at + 1) n
           ∙ sym (add-zero at);
+      lefts =
+          λ t at z n v.
+          let one : LeftOuts = record { inner = at; before = t .all; all = t .all } in
+          let k : leaves (leave InnerStart (at + 1) (leave InnerStart at t)) (at + 1 + 1) (w .marks) .before ≡ t .all =
+          before-kept (leave InnerStart (at + 1) (leave InnerStart at t)) (at + 1 + 1) (w .marks) (p .part .inner)
+          ∙ ap (λ u. leave InnerStart (at + 1) u .before) (leave-first t at z) ∙ ap (λ u. u .before) (leave-second one (at + 1) n) in
+          omega (arith, k, ap length (p .part .headers));
     }
 
 -- one byte more in front
@@ -172,6 +202,7 @@ module _ (seven : Bool) (f : Field) (l : List ℕ) (ks : List Mark) (p : Headed 
         counts = ap (λ z. b ∷ z) (p .counts) ∙ ap (λ z. z ++ (p .inner ++ counted (p .marks) (p .tail))) (sym (k (p .head)));
         has = p .has;
         place = λ t at z n. p .place _ (at + 1) z (omega arith) ∙ ap (cond (eqb (p .wide) 0) 0) (omega arith);
+        lefts = λ t at z n v. omega (arith, p .lefts t (at + 1) z (omega arith) v);
       }
 
   headed-left-out : (b : ℕ) → ((bs : List ℕ) → keptBytes false seven false (b ∷ bs) ≡ keptBytes false seven false bs)
@@ -195,6 +226,7 @@ module _ (seven : Bool) (f : Field) (l : List ℕ) (ks : List Mark) (p : Headed 
         counts = p .counts ∙ ap (λ z. z ++ (p .inner ++ counted (p .marks) (p .tail))) (sym (k (p .head)));
         has = p .has;
         place = λ t at z n. p .place t (at + 1) z (omega arith) ∙ ap (cond (eqb (p .wide) 0) 0) (omega arith);
+        lefts = λ t at z n v. omega (arith, p .lefts (leave LeftOut at t) (at + 1) z (omega arith) v);
       }
 
 -- behind a DLE

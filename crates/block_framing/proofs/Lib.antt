@@ -1,9 +1,8 @@
-pub mod FramingCases
 pub mod FramingLaws
 pub mod HeaderWalk
 pub mod KeptBySign
+pub mod Lengths
 pub mod OneToOne
 pub mod Reading
-pub mod Starts
 pub mod TextWalk
 pub mod Turns

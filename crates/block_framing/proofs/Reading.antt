@@ -2,16 +2,15 @@
 use mathlib.Core.Path.{_≡_, refl, sym, ap, subst, _∙_}
 use Prim.Native.Nat.{ℕ, zero, suc, _+_, _-_, _≤_, _<_}
 use native.Mathlib.Nat.{add-zero, zero-add}
-use native.Mathlib.Numerals.{add-one}
 use native.Mathlib.Omega.{arith}
 use mathlib.Core.Bool.{Bool, true, false, cond}
 use mathlib.Core.List.{List, [], _∷_}
 use lib.Dec.{eqb, leb}
-use lib.ListN.{length, getD, take, drop, drop-of-length-le}
+use lib.ListN.{length, take, drop}
 use Prim.Native.Nat.{zero, suc}
 use native.Mathlib.Nat.{add-zero}
 use mathlib.Core.Path.{subst}
-use lib.Seq.{drop-cons, slice}
+use lib.Seq.{slice}
 use borrow.Author.Tests.{eq-eqb, ne-eqb, le-leb, lt-leb}
 use Rattle.block.specs.declared.Method.{Method}
 use Rattle.block.specs.declared.ReadRefusal.{ReadRefusal}
@@ -31,9 +30,12 @@ use Rattle.block.specs.Read as rule
 use Rattle.block.specs.Answers.{readNumber, readValue}
 use Rattle.block_framing.specs.declared.WalkEnd.{WalkEnd}
 use Rattle.block_framing.specs.declared.WalkEnd.the-variants as code
-use Rattle.block_framing.specs.declared.Tally.{Tally}
 use Rattle.block_framing.specs.declared.Segments.{Segments}
-use Rattle.block_framing.specs.Framings.{noTally, addMark, tallied, segments, framingAt, framed, refusal, ofWalk, stopped, answerAfter, walkAnswer, framedAnswer, startOf}
+use Rattle.block_framing.specs.Framings.{Tally, noTally, tallied, segments, framingAt, framed, refusal, ofWalk, framedAnswer, startOf}
+use Rattle.block_framing.specs.declared.LeftOuts.{LeftOuts}
+use Rattle.block_framing.specs.Walks.{noLeftOuts, leave, leaves, segmentsAt, stopped, answerAfter, walkAnswer}
+use Rattle.block_framing.proofs.Lengths.{segments-framing}
+use Rattle.block_fields.specs.Fields.{textSigns}
 use Rattle.block_framing.proofs.FramingLaws.{tally-counts, marks-within}
 
 -- ---- a part of a slice
@@ -76,53 +78,57 @@ parities-right p (b ∷ l) at next h = go (parityRight p b) (λ k. parities-righ
 -- ---- 13 to 15: what the walk hands on
 
 module _ (start : ℕ) where
-  answer-stopped : (t : Tally) (at : ℕ) (ks : List Mark) (s : Stop)
-      → answerAfter start t at ks s ≡ stopped start (tallied t at ks) (at + length ks) s
+  answer-stopped : (t : LeftOuts) (at : ℕ) (ks : List Mark) (s : Stop)
+      → answerAfter start t at ks s ≡ stopped start (leaves t at ks) (at + length ks) s
   answer-stopped t at [] s = ap (λ n. stopped start t n s) (sym (add-zero at))
   answer-stopped t at (k ∷ ks) s =
       let e : at + 1 + length ks ≡ at + suc (length ks) = omega arith in
-      answer-stopped (addMark k at t) (at + 1) ks s ∙ ap (λ n. stopped start (tallied (addMark k at t) (at + 1) ks) n s) e
+      answer-stopped (leave k at t) (at + 1) ks s ∙ ap (λ n. stopped start (leaves (leave k at t) (at + 1) ks) n s) e
 
-  answer-walk : (w : Walked) → walkAnswer start noTally 0 w ≡ stopped start (tallied noTally 0 (w .marks)) (length (w .marks)) (w .stop)
-  answer-walk w =
-      answer-stopped noTally 0 (w .marks) (w .stop)
-      ∙ ap (λ n. stopped start (tallied noTally 0 (w .marks)) n (w .stop)) (zero-add (length (w .marks)))
-
-  -- a walk that hands on a framing stopped at an end sign
-  pub record FoundBy (w : Walked) (r : Segments) : Type 0 where
-    pub field : Field
-    pub end : EndSign
-    pub stop : w .stop ≡ ended field end
-    pub framing : r ≡ framingAt start field end (tallied noTally 0 (w .marks)) (length (w .marks))
-
-  pub found-by : (w : Walked) (r : Segments) → walkAnswer start noTally 0 w ≡ framed r → FoundBy w r
-  found-by w r e = go (w .stop) refl
-    where
-      go : (s : Stop) → w .stop ≡ s → FoundBy w r
-      go (ended f d) q =
-          let c : framed r ≡ framed (framingAt start f d (tallied noTally 0 (w .marks)) (length (w .marks))) =
-          sym e ∙ answer-walk w ∙ ap (stopped start (tallied noTally 0 (w .marks)) (length (w .marks))) q in
-          record { field = f; end = d; stop = q; framing = cc }
-      go (refused n v) q =
-          let c : framed r ≡ refusal n v = sym e ∙ answer-walk w ∙ ap (stopped start (tallied noTally 0 (w .marks)) (length (w .marks))) q in
-          let z : _≡_ {A = ℕ} 0 1 = cc in
-          absurd (omega arith)
+  answer-walk : (w : Walked) {s : Stop} → w .stop ≡ s → walkAnswer start noLeftOuts 0 w ≡ stopped start (leaves noLeftOuts 0 (w .marks)) (length (w .marks)) s
+  answer-walk w {s} q =
+      answer-stopped noLeftOuts 0 (w .marks) (w .stop)
+      ∙ ap (λ n. stopped start (leaves noLeftOuts 0 (w .marks)) n (w .stop)) (zero-add (length (w .marks)))
+      ∙ ap (stopped start (leaves noLeftOuts 0 (w .marks)) (length (w .marks))) q
 
   -- a walk that hands on a refusal
-  pub refused-by : (m : Method) (line : List ℕ) (w : Walked) (n v : ℕ) → walkAnswer start noTally 0 w ≡ refusal n v
+  pub refused-by : (m : Method) (line : List ℕ) (w : Walked) (n v : ℕ) → walkAnswer start noLeftOuts 0 w ≡ refusal n v
       → framedAnswer (isSeven m) line (askWalk m line w) ≡ refusal n v
   refused-by m line w n v e = go (w .stop) refl
     where
       go : (s : Stop) → w .stop ≡ s → framedAnswer (isSeven m) line (askEnd m line (w .marks) (w .stop)) ≡ refusal n v
       go (ended f d) q =
-          let c : refusal n v ≡ framed (framingAt start f d (tallied noTally 0 (w .marks)) (length (w .marks))) =
-          sym e ∙ answer-walk w ∙ ap (stopped start (tallied noTally 0 (w .marks)) (length (w .marks))) q in
+          let c : refusal n v ≡ framed (segmentsAt start (textSigns f) d (leaves noLeftOuts 0 (w .marks)) (length (w .marks))) = sym e ∙ answer-walk w q in
           let z : _≡_ {A = ℕ} 0 1 = cc in
           absurd (omega arith)
-      go (refused k u) q =
-          let c : walkAnswer start noTally 0 w ≡ refusal k u =
-          answer-walk w ∙ ap (stopped start (tallied noTally 0 (w .marks)) (length (w .marks))) q in
-          ap (λ s. framedAnswer (isSeven m) line (askEnd m line (w .marks) s)) q ∙ sym c ∙ e
+      go (refused k u) q = ap (λ s. framedAnswer (isSeven m) line (askEnd m line (w .marks) s)) q ∙ sym (answer-walk w q) ∙ e
+
+-- a walk that hands on a framing stopped at an end sign
+pub record FoundBy (start : ℕ) (w : Walked) (r : Segments) : Type 0 where
+  pub field : Field
+  pub end : EndSign
+  pub stop : w .stop ≡ ended field end
+  pub framing : r ≡ framingAt start field end (tallied noTally 0 (w .marks)) (length (w .marks))
+
+found-by : (seven : Bool) (line : List ℕ) (r : Segments) → walkAnswer (startOf seven line) noLeftOuts 0 (walk seven line 0 Start) ≡ framed r
+    → FoundBy (startOf seven line) (walk seven line 0 Start) r
+found-by seven line r e = go (walk seven line 0 Start .stop) refl
+  where
+    go : (s : Stop) → walk seven line 0 Start .stop ≡ s → FoundBy (startOf seven line) (walk seven line 0 Start) r
+    go (ended f d) q =
+        let ks : List Mark = walk seven line 0 Start .marks in
+        let c : framed r ≡ framed (segmentsAt (startOf seven line) (textSigns f) d (leaves noLeftOuts 0 ks) (length ks)) = sym e ∙ answer-walk (startOf seven line) (walk seven line 0 Start) q in
+        let p : r ≡ segmentsAt (startOf seven line) (textSigns f) d (leaves noLeftOuts 0 ks) (length ks) = cc in
+        record {
+          field = f;
+          end = d;
+          stop = q;
+          framing = p ∙ segments-framing seven line ks f d (ap (λ (s : Stop). record { marks = ks; stop = s }) q);
+        }
+    go (refused n v) q =
+        let c : framed r ≡ refusal n v = sym e ∙ answer-walk (startOf seven line) (walk seven line 0 Start) q in
+        let z : _≡_ {A = ℕ} 0 1 = cc in
+        absurd (omega arith)
 
 -- ---- what a framing carries over from the tally
 
@@ -152,7 +158,7 @@ framing-carries start ClearDle e t after = carries-either (eqb (t .inner) 0) (ca
 
 -- ---- 16 and 17
 
-module _ (m : Method) (line : List ℕ) (r : Segments) (e : walkAnswer (startOf (isSeven m) line) noTally 0 (walk (isSeven m) line 0 Start) ≡ framed r) where
+module _ (m : Method) (line : List ℕ) (r : Segments) (e : walkAnswer (startOf (isSeven m) line) noLeftOuts 0 (walk (isSeven m) line 0 Start) ≡ framed r) where
   abbrev w : Walked
   w = walk (isSeven m) line 0 Start
 
@@ -160,7 +166,7 @@ module _ (m : Method) (line : List ℕ) (r : Segments) (e : walkAnswer (startOf 
   start = startOf (isSeven m) line
 
   by : FoundBy start w r
-  by = found-by start w r e
+  by = found-by (isSeven m) line r e
 
   carried : Carries (by .end) (tallied noTally 0 (w .marks)) (length (w .marks)) r
   carried =
@@ -207,14 +213,14 @@ module _ (m : Method) (line : List ℕ) (r : Segments) (e : walkAnswer (startOf 
 -- ---- the same of the code's walk
 
 module _ (m : Method) (line : List ℕ) {seven : Bool} {result : WalkEnd} (s : seven ≡ isSeven m)
-    (e : ofWalk result ≡ walkAnswer (startOf seven line) noTally 0 (walk seven line 0 Start)) where
-  pub answer-as : {r : Segments} → result ≡ code.Found r → walkAnswer (startOf (isSeven m) line) noTally 0 (walk (isSeven m) line 0 Start) ≡ framed r
-  answer-as q = sym (e ∙ ap (λ t. walkAnswer (startOf t line) noTally 0 (walk t line 0 Start)) s) ∙ ap ofWalk q
+    (e : ofWalk result ≡ walkAnswer (startOf seven line) noLeftOuts 0 (walk seven line 0 Start)) where
+  pub answer-as : {r : Segments} → result ≡ code.Found r → walkAnswer (startOf (isSeven m) line) noLeftOuts 0 (walk (isSeven m) line 0 Start) ≡ framed r
+  answer-as q = sym (e ∙ ap (λ t. walkAnswer (startOf t line) noLeftOuts 0 (walk t line 0 Start)) s) ∙ ap ofWalk q
 
   pub refused-as : {r : ReadRefusal} → result ≡ code.Refused r → ofWalk result ≡ framedAnswer (isSeven m) line (askWalk m line (walk (isSeven m) line 0 Start))
   refused-as {r} q =
       ap ofWalk q ∙ sym (refused-by (startOf (isSeven m) line) m line (walk (isSeven m) line 0 Start) (readNumber r) (readValue r)
-      (sym (e ∙ ap (λ t. walkAnswer (startOf t line) noTally 0 (walk t line 0 Start)) s) ∙ ap ofWalk q))
+      (sym (e ∙ ap (λ t. walkAnswer (startOf t line) noLeftOuts 0 (walk t line 0 Start)) s) ∙ ap ofWalk q))
 
 -- ---- 11 and 12
 

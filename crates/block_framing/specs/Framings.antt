@@ -17,18 +17,23 @@ use Rattle.block.specs.declared.Field.{Field}
 use Rattle.block.specs.declared.Field.the-variants.{Start, StartDle, Header, HeaderDle, Text, Clear, ClearDle}
 use Rattle.block.specs.Signs.{SYN, DLE, signOf, isSyn}
 use Rattle.block.specs.Characters.{character}
-use Rattle.block.specs.Walk.{Stop, ended, refused, Walked}
 use Rattle.block.specs.Marks.{counted, isHeader, isText, sift}
 use Rattle.block.specs.Read.{Framed, found, unframed}
 use Rattle.block.specs.Write.{isClear}
 use Rattle.block.specs.Answers.{Numbers, readNumber, readValue}
 use Rattle.block.specs.Answers as answers
-use Rattle.block_framing.specs.declared.Tally.{Tally}
 use Rattle.block_framing.specs.declared.Segments.{Segments}
 use Rattle.block_framing.specs.declared.WalkEnd.{WalkEnd}
 use Rattle.block_framing.specs.declared.WalkEnd.the-variants as code
 
 -- ---- the marks counted up
+
+-- the place of the first inner start, 0 where there was none; and how many bytes are header, text and counted
+pub record Tally : Type 0 where
+  pub inner : ℕ
+  pub header : ℕ
+  pub text : ℕ
+  pub counted : ℕ
 
 abbrev pub noTally : Tally
 noTally = record { inner = 0; header = 0; text = 0; counted = 0 }
@@ -48,29 +53,12 @@ abbrev pub tallied : Tally → ℕ → List Mark → Tally
 tallied t at [] = t
 tallied t at (k ∷ ks) = tallied (addMark k at t) (at + 1) ks
 
--- no number of a tally is past n
-pub record Small (t : Tally) (n : ℕ) : Type 0 where
-  pub inner : t .inner ≤ n
-  pub header : t .header ≤ n
-  pub text : t .text ≤ n
-  pub counted : t .counted ≤ n
-
 -- ---- the start
 
 -- how many SYN stand ahead of the start, which is its place
 abbrev pub startOf : Bool → List ℕ → ℕ
 startOf seven [] = 0
 startOf seven (b ∷ rest) = cond (isSyn (signOf (character seven b))) (startOf seven rest + 1) 0
-
--- the place of the start, from a byte of field f at the place `at` on: there where the start is still awaited
-abbrev pub startAt : Field → ℕ → ℕ → ℕ
-startAt Start at start = at
-startAt StartDle at start = start
-startAt Header at start = start
-startAt HeaderDle at start = start
-startAt Text at start = start
-startAt Clear at start = start
-startAt ClearDle at start = start
 
 -- ---- the framing
 
@@ -118,19 +106,7 @@ abbrev pub ofWalk : WalkEnd → WalkAnswer
 ofWalk (code.Found f) = framed f
 ofWalk (code.Refused r) = refusal (readNumber r) (readValue r)
 
-abbrev pub stopped : ℕ → Tally → ℕ → Stop → WalkAnswer
-stopped start t at (ended f e) = framed (framingAt start f e t at)
-stopped start t at (refused number value) = refusal number value
-
-abbrev pub answerAfter : ℕ → Tally → ℕ → List Mark → Stop → WalkAnswer
-answerAfter start t at [] s = stopped start t at s
-answerAfter start t at (k ∷ ks) s = answerAfter start (addMark k at t) (at + 1) ks s
-
--- what the walk hands on, of a line with its start at the place `start`, from the tally t and the place `at` on
-abbrev pub walkAnswer : ℕ → Tally → ℕ → Walked → WalkAnswer
-walkAnswer start t at w = answerAfter start t at (w .marks) (w .stop)
-
--- the same of a line that passed 11 to 17
+-- the answer for a line that passed 11 to 17
 abbrev pub framedAnswer : Bool → List ℕ → Framed → WalkAnswer
 framedAnswer seven line (found ks f e) = framed (framingAt (startOf seven line) f e (tallied noTally 0 ks) (length ks))
 framedAnswer seven line (unframed number value) = refusal number value

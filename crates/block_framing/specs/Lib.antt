@@ -1,2 +1,3 @@
 pub mod Framings
 pub mod Runs
+pub mod Walks

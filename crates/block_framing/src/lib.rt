@@ -4,13 +4,12 @@ use block::EndSign;
 use block::ReadRefusal;
 use block::Shape;
 
-// The marks so far, counted up: the place of the first inner start (0 where there was none), and the numbers of header bytes,
-// text bytes and counted bytes.
-pub(crate) struct Tally {
+// What the walk keeps of the marks: the place of the first inner start (0 where there was none), and how many bytes were left out
+// before it and in all.
+pub(crate) struct LeftOuts {
     pub inner: usize,
-    pub header: usize,
-    pub text: usize,
-    pub counted: usize,
+    pub before: usize,
+    pub all: usize,
 }
 
 // What the walk hands on: shape and end sign; the places of the header (from `head` up to `inner`), of the inner start (up to
@@ -36,7 +35,6 @@ pub enum WalkEnd {
 }
 
 mod questions;
-mod run;
 mod walk;
 
 pub use questions::find_framing;

@@ -1,9 +1,7 @@
-// The walk over a line, questions 13 to 15, and the framing that it finds.
+// The walk over a line, questions 13 to 15, and the segments that it finds.
+use crate::LeftOuts;
 use crate::Segments;
-use crate::Tally;
 use crate::WalkEnd;
-use crate::run::add_run;
-use crate::run::run_of;
 use block::BytePlace;
 use block::EndSign;
 use block::Field;
@@ -12,204 +10,152 @@ use block::Mark;
 use block::ReadRefusal;
 use block::Shape;
 use block::character;
+use block_fields::cut;
+use block_fields::fill_ahead;
 use block_fields::judge;
+use block_fields::text_signs;
+use block_scan::data_run;
 ghost use mathlib.Core.Path.{_≡_};
 ghost use Prim.Native.Nat.{_-_, _≤_};
 ghost use lib.ListN.{length};
 ghost use Rattle.block.specs.Walk as rule;
-ghost use Rattle.block_framing.specs.Framings.{noTally, firstOf, addMark, startOf, startAt, segments, framingAt, ofWalk, stopped, walkAnswer, Small};
+ghost use Rattle.block_framing.specs.Framings.{startOf, ofWalk};
+ghost use Rattle.block_framing.specs.Walks as walks;
 
-// The place before, 0 before the first.
-fn place_before(at: usize) -> usize
-    ensures { λ r. ⌜ r ≡ at - 1 ⌝ }
+// a without n, 0 where n is the greater.
+fn less(a: usize, n: usize) -> usize
+    ensures { λ r. ⌜ r ≡ a - n ⌝ }
 {
-    if at == 0 { 0 } else { at - 1 }
+    if a < n { 0 } else { a - n }
 }
 
-fn first_of(inner: usize, at: usize) -> usize
-    ensures { λ r. ⌜ r ≡ firstOf inner at ⌝ }
+// One mark more, that of the byte at the place `at`.
+fn leave(k: Mark, at: usize, t: LeftOuts) -> LeftOuts
+    requires { ⌜ walks.Small t 16384 ⌝ }
+    ensures { λ r. ⌜ r ≡ walks.leave k at t ⌝ }
 {
-    if inner == 0 { at } else { inner }
-}
-
-// The tally with one more mark, that of the byte at the place `at`.
-fn add_mark(k: Mark, at: usize, t: Tally) -> Tally
-    requires { ⌜ Small t 16384 ⌝ }
-    ensures { λ r. ⌜ r ≡ addMark k at t ⌝ }
-{
-    let inner = t.inner;
+    let all = t.all;
     match k {
-        Mark::LeftOut => t,
-        Mark::HeaderByte => Tally {
-            inner,
-            header: t.header + 1,
-            text: t.text,
-            counted: t.counted + 1,
+        Mark::LeftOut => LeftOuts {
+            inner: t.inner,
+            before: t.before,
+            all: all + 1,
         },
-        Mark::TextByte => Tally {
-            inner,
-            header: t.header,
-            text: t.text + 1,
-            counted: t.counted + 1,
-        },
-        Mark::InnerStart => Tally {
-            inner: first_of(inner, at),
-            header: t.header,
-            text: t.text,
-            counted: t.counted + 1,
-        },
-        Mark::End => Tally {
-            inner,
-            header: t.header,
-            text: t.text,
-            counted: t.counted + 1,
-        },
+        Mark::HeaderByte => t,
+        Mark::TextByte => t,
+        Mark::InnerStart => {
+            if t.inner == 0 {
+                LeftOuts {
+                    inner: at,
+                    before: all,
+                    all,
+                }
+            } else {
+                t
+            }
+        }
+        Mark::End => t,
     }
 }
 
-fn segments_at(
-    shape: Shape,
-    end: EndSign,
-    t: Tally,
-    after: usize,
-    from: usize,
-    to: usize,
-    begin: usize,
-    stop: usize,
-) -> Segments
-    ensures { λ r. ⌜ r ≡ segments shape end t after from to begin stop ⌝ }
+fn shape_at(signs: usize, inner: usize) -> Shape
+    ensures { λ r. ⌜ r ≡ walks.shapeAt signs inner ⌝ }
 {
+    if signs == 0 {
+        return Shape::Header;
+    }
+    if inner == 0 {
+        if signs == 1 {
+            Shape::Text
+        } else {
+            Shape::ClearText
+        }
+    } else {
+        if signs == 1 {
+            Shape::HeaderText
+        } else {
+            Shape::HeaderClearText
+        }
+    }
+}
+
+// The segments of a line with its start at the place `start` and so many signs before its text, whose end sign stands behind
+// `after` bytes.
+fn segments_at(start: usize, signs: usize, end: EndSign, t: LeftOuts, after: usize) -> Segments
+    requires { ⌜ (walks.Small t 16384) × (start ≤ 16384) × (signs ≤ 2) ⌝ }
+    ensures { λ r. ⌜ r ≡ walks.segmentsAt start signs end t after ⌝ }
+{
+    let inner = t.inner;
+    let shape = shape_at(signs, inner);
+    let counted = less(after, t.all);
+    if signs == 0 {
+        let last = less(after, 1);
+        return Segments {
+            shape,
+            end,
+            head: start + 1,
+            inner: last,
+            body: last,
+            tail: last,
+            header: less(counted, 1),
+            text: 0,
+            counted,
+            after,
+        };
+    }
+    let tail = less(after, signs);
+    if inner == 0 {
+        let body = start + signs;
+        return Segments {
+            shape,
+            end,
+            head: body,
+            inner: body,
+            body,
+            tail,
+            header: 0,
+            text: less(counted, 1),
+            counted,
+            after,
+        };
+    }
+    let header = less(inner, t.before);
     Segments {
         shape,
         end,
-        head: from,
-        inner: to,
-        body: begin,
-        tail: stop,
-        header: t.header,
-        text: t.text,
-        counted: t.counted,
+        head: start + 1,
+        inner,
+        body: inner + signs,
+        tail,
+        header,
+        text: less(counted, header + signs + 1),
+        counted,
         after,
-    }
-}
-
-// Where the start stands, from a byte of field f at the place `at` on: fill signs ahead of it move it on.
-fn start_at(f: Field, at: usize, start: usize) -> usize
-    ensures { λ r. ⌜ r ≡ startAt f at start ⌝ }
-{
-    match f {
-        Field::Start => at,
-        Field::StartDle => start,
-        Field::Header => start,
-        Field::HeaderDle => start,
-        Field::Text => start,
-        Field::Clear => start,
-        Field::ClearDle => start,
-    }
-}
-
-// The framing of a line with its start at the place `start`, whose end sign stands in field f, behind `after` bytes.
-fn framing_at(start: usize, f: Field, end: EndSign, t: Tally, after: usize) -> Segments
-    requires { ⌜ (Small t 16384) × (start ≤ 16384) ⌝ }
-    ensures { λ r. ⌜ r ≡ framingAt start f end t after ⌝ }
-{
-    let head = start + 1;
-    let last = place_before(after);
-    let inner = t.inner;
-    match f {
-        Field::Text => {
-            if inner == 0 {
-                segments_at(Shape::Text, end, t, after, head, head, head, last)
-            } else {
-                segments_at(
-                    Shape::HeaderText,
-                    end,
-                    t,
-                    after,
-                    head,
-                    inner,
-                    inner + 1,
-                    last,
-                )
-            }
-        }
-        Field::ClearDle => {
-            if inner == 0 {
-                {
-                    let body = head + 1;
-                    segments_at(
-                        Shape::ClearText,
-                        end,
-                        t,
-                        after,
-                        body,
-                        body,
-                        body,
-                        place_before(last),
-                    )
-                }
-            } else {
-                segments_at(
-                    Shape::HeaderClearText,
-                    end,
-                    t,
-                    after,
-                    head,
-                    inner,
-                    inner + 2,
-                    place_before(last),
-                )
-            }
-        }
-        Field::Start => segments_at(Shape::Header, end, t, after, head, last, last, last),
-        Field::StartDle => segments_at(Shape::Header, end, t, after, head, last, last, last),
-        Field::Header => segments_at(Shape::Header, end, t, after, head, last, last, last),
-        Field::HeaderDle => segments_at(Shape::Header, end, t, after, head, last, last, last),
-        Field::Clear => segments_at(Shape::Header, end, t, after, head, last, last, last),
-    }
-}
-
-// The line ends before an end sign.
-fn cut(f: Field) -> WalkEnd
-    ensures { λ r. ⌜ ofWalk r ≡ stopped 0 noTally 0 (rule.cut f) ⌝ }
-{
-    match f {
-        Field::Start => WalkEnd::Refused(ReadRefusal::NoStart),
-        Field::StartDle => WalkEnd::Refused(ReadRefusal::NoStart),
-        Field::Header => WalkEnd::Refused(ReadRefusal::NoEnd),
-        Field::HeaderDle => WalkEnd::Refused(ReadRefusal::NoEnd),
-        Field::Text => WalkEnd::Refused(ReadRefusal::NoEnd),
-        Field::Clear => WalkEnd::Refused(ReadRefusal::NoEnd),
-        Field::ClearDle => WalkEnd::Refused(ReadRefusal::NoEnd),
     }
 }
 
 pub(crate) fn walk(seven: bool, line: &[u8]) -> WalkEnd
     requires { ⌜ length (now line) ≤ 16384 ⌝ }
-    ensures { λ r. ⌜ ofWalk r ≡ walkAnswer (startOf seven (now (line .entry))) noTally 0 (rule.walk seven (now (line .entry)) 0 Field.Start) ⌝ }
+    ensures { λ r. ⌜ ofWalk r ≡ walks.walkAnswer (startOf seven (now (line .entry))) walks.noLeftOuts 0 (rule.walk seven (now (line .entry)) 0 Field.Start) ⌝ }
 {
-    let mut t = Tally {
+    let mut t = LeftOuts {
         inner: 0,
-        header: 0,
-        text: 0,
-        counted: 0,
+        before: 0,
+        all: 0,
     };
     let mut f = Field::Start;
-    let mut start = 0;
     let mut i = 0;
     while i < line.len() {
         match judge(seven, f, character(seven, line[i])) {
             Judged::Is(k, g) => {
                 let next = i + 1;
-                let run = run_of(seven, g, &line[next..]);
-                t = add_run(g, run, add_mark(k, i, t));
-                start = start_at(f, i, start);
+                t = leave(k, i, t);
                 f = g;
-                i = next + run;
+                i = next + data_run(seven, g, &line[next..]);
             }
             Judged::Ends(e) => {
-                let counted = add_mark(Mark::End, i, t);
-                return WalkEnd::Found(framing_at(start, f, e, counted, i + 1));
+                let start = fill_ahead(seven, line);
+                return WalkEnd::Found(segments_at(start, text_signs(f), e, t, i + 1));
             }
             Judged::NoStart => {
                 return WalkEnd::Refused(ReadRefusal::NoStart);
@@ -218,9 +164,9 @@ pub(crate) fn walk(seven: bool, line: &[u8]) -> WalkEnd
                 return WalkEnd::Refused(ReadRefusal::OutOfPlace(BytePlace(i)));
             }
             Judged::DleOutOfPlace => {
-                return WalkEnd::Refused(ReadRefusal::OutOfPlace(BytePlace(place_before(i))));
+                return WalkEnd::Refused(ReadRefusal::OutOfPlace(BytePlace(less(i, 1))));
             }
         }
     }
-    cut(f)
+    WalkEnd::Refused(cut(f))
 }

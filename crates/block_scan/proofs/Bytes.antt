@@ -1,9 +1,9 @@
 -- A byte of a run, as code tests it. Assumes nothing.
-use mathlib.Core.Path.{_≡_, refl, sym, ap, _∙_}
+use mathlib.Core.Path.{_≡_, refl, ap, _∙_}
 use Prim.Native.Nat.{ℕ, zero, suc, _≤_, _<_}
 use native.Mathlib.Omega.{arith}
 use mathlib.Core.Bool.{Bool, true, false, cond, not, _&&_, _||_}
-use mathlib.Core.List.{List}
+use mathlib.Core.List.{List, [], _∷_}
 use lib.Dec.{eqb, ltb}
 use borrow.Author.Tests.{ltb-true, eqb-false, ne-eqb, not-true}
 use Rattle.block.specs.Signs.{SOH, STX, ETX, DLE, SYN, ETB, US, soh, stx, etx, dle, syn, etb, us, other, signOf, OffSigns}
@@ -69,3 +69,9 @@ clear-byte seven b char = ap (λ x. not (eqb x DLE)) char ∙ ap not (dle-test (
 pub plain-free : (seven : Bool) (at : ℕ) (part : List ℕ) → firstFailing (isPlainByte false seven) at part ≡ firstFailing (isFree seven) at part
 unfolding isPlainByte isFree character
 plain-free seven at part = scan-same (λ b. refl) at part
+
+-- a field without data
+pub no-run : {test : ℕ → Bool} (l : List ℕ) → ((b : ℕ) → test b ≡ false) → firstFailing test 0 l ≡ 0
+unfolding firstFailing
+no-run [] h = refl
+no-run (b ∷ l) h = rw (h b)

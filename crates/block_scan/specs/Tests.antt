@@ -1,7 +1,9 @@
 -- Which bytes a run of data holds. Assumes nothing.
 use Prim.Native.Nat.{ℕ}
-use mathlib.Core.Bool.{Bool, not, _&&_, _||_}
+use mathlib.Core.Bool.{Bool, false, not, _&&_, _||_}
 use lib.Dec.{ltb}
+use Rattle.block.specs.declared.Field.{Field}
+use Rattle.block.specs.declared.Field.the-variants.{Start, StartDle, Header, HeaderDle, Text, Clear, ClearDle}
 use Rattle.block.specs.Signs.{signOf, isDle}
 use Rattle.block.specs.Characters.{character}
 use Rattle.block.specs.Write.{isOther}
@@ -13,3 +15,13 @@ isPlainByte seven low b = isOther (signOf (character seven b)) && (not low || lt
 -- in clear text all but DLE
 unfoldable pub isClearByte : Bool → ℕ → Bool
 isClearByte seven b = not (isDle (signOf (character seven b)))
+
+-- whether a byte is data of a field
+abbrev pub isData : Bool → Field → ℕ → Bool
+isData seven Start b = false
+isData seven StartDle b = false
+isData seven Header b = isPlainByte seven false b
+isData seven HeaderDle b = false
+isData seven Text b = isPlainByte seven false b
+isData seven Clear b = isClearByte seven b
+isData seven ClearDle b = false

@@ -1,9 +1,9 @@
--- `run_of` meets its contract, field by field. Assumes nothing.
+-- `data_run` meets its contract, field by field. Assumes nothing.
 use mathlib.Core.Path.{refl, sym}
-use Rattle.block_framing.proofs.Turns.{no-run}
+use Rattle.block_scan.proofs.Bytes.{no-run}
 use borrow.Author.Needs.{needs}
-use Rattle.block_framing.proofs.run.run_of.Statement.{statement}
-use Rattle.block_framing.proofs.run.run_of.Tie as tie
+use Rattle.block_scan.proofs.field.data_run.Statement.{statement}
+use Rattle.block_scan.proofs.field.data_run.Tie as tie
 
 enum-told : tie.Need-enum-told
 enum-told c = search needs
@@ -56,8 +56,8 @@ returns-6 c = rw (c .before .enum-told6 .given .1) (c .clear-run .ensures)
 returns-7 : tie.Need-returns-7
 returns-7 c = rw (c .enum-told7 .given .1) (sym (no-run _ (λ b. refl)))
 
-pub run-of-spec : {M : Type 1} → statement M
-run-of-spec =
+pub data-run-spec : {M : Type 1} → statement M
+data-run-spec =
     tie.close
     (tie.spec
     enum-told
