@@ -1,4 +1,3 @@
 pub mod HandedOut
-pub mod Kept
 pub mod ReadBlock
-pub mod ReceivedChecks
+pub mod CountedBytes

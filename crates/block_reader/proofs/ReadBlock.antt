@@ -54,9 +54,13 @@ pub record Found (m : Method) (p : Parity) (line : List ℕ) (r : Segments) : Ty
   pub rules : rule.framed m p line ≡ found marks field end
   pub framing : r ≡ framingAt (startOf (isSeven m) line) field end (tallied noTally 0 marks) (length marks)
 
-pub found-framing : (m : Method) (p : Parity) (line : List ℕ) (r : Segments) → framedAnswer (isSeven m) line (rule.framed m p line) ≡ framed r → Found m p line r
-found-framing m p line r q = go (rule.framed m p line) refl
+pub found-framing : (m : Method) (p : Parity) (line : List ℕ) {w : WalkEnd} {r : Segments} → ofWalk w ≡ framedAnswer (isSeven m) line (rule.framed m p line)
+    → w ≡ code.Found r → Found m p line r
+found-framing m p line {w} {r} h e = go (rule.framed m p line) refl
   where
+    q : framedAnswer (isSeven m) line (rule.framed m p line) ≡ framed r
+    q = sym h ∙ ap ofWalk e
+
     go : (x : Framed) → rule.framed m p line ≡ x → Found m p line r
     go (found ks f e) s =
         let c : framed (framingAt (startOf (isSeven m) line) f e (tallied noTally 0 ks) (length ks)) ≡ framed r = sym (ap (framedAnswer (isSeven m) line) s) ∙ q in
@@ -86,9 +90,6 @@ module _ (m : Method) (p : Parity) (line : List ℕ) (r : Segments) (x : Found m
 
   pub ordered : Ordered r (length line)
   ordered = finds .ordered
-
-  pub closed : length line ≡ r .after + checkLength m
-  closed = through .closes ∙ ap (λ n. n + checkLength m) (sym (carried .behind))
 
   header-length : r .header ≡ length (map (character (isSeven m)) (sift isHeader ks line))
   header-length = carried .headers ∙ tally .headers ∙ sym (length-map (sift isHeader ks line) (character (isSeven m)))

@@ -1,6 +1,5 @@
 // Reading a block: questions 11 to 19, then header and text handed out.
 use crate::check::check_right;
-use crate::segments::copy_part;
 use block::Block;
 use block::BlockRead;
 use block::Method;
@@ -11,7 +10,10 @@ use block::is_seven;
 use block_framing::Segments;
 use block_framing::WalkEnd;
 use block_framing::find_framing;
+use block_segments::copy_kept;
+use block_segments::copy_whole;
 ghost use mathlib.Core.Path.{_≡_};
+ghost use mathlib.Core.Bool.{false};
 ghost use mathlib.Core.List.{_++_, map};
 ghost use Prim.Native.Nat.{_+_, _≤_};
 ghost use lib.ListN.{length};
@@ -19,7 +21,7 @@ ghost use lib.Seq.{sets};
 ghost use Rattle.bits.specs.Calls.{called};
 ghost use Rattle.block.specs.Characters.{character};
 ghost use Rattle.block.specs.Answers.{ofRead, readCall};
-ghost use Rattle.block_framing.specs.Framings.{ofWalk, ofUnframed, headerIn, textIn, Ordered};
+ghost use Rattle.block_framing.specs.Framings.{ofWalk, ofUnframed, keptBytes, headerIn, textIn, Ordered};
 ghost use Rattle.block_reader.specs.Counts.{CountsKept, heldBy};
 
 // The refusal of a walk that found no framing.
@@ -47,6 +49,18 @@ fn held(f: Segments) -> Block
     }
 }
 
+// The characters of the `kept` bytes of a segment, at the start of an output.
+fn copy_part(seven: bool, clear: bool, kept: usize, part: &[u8], out: &mut [u8])
+    requires { ⌜ kept ≡ length (keptBytes clear seven false (now part)) ⌝ }
+    ensures { λ _. ⌜ now (out .exit) ≡ sets (now (out .entry)) 0 (map (character seven) (keptBytes clear seven false (now (part .entry)))) ⌝ }
+{
+    if kept == part.len() {
+        copy_whole(seven, part, &mut *out);
+        return;
+    }
+    copy_kept(seven, clear, part, &mut *out);
+}
+
 // Header, then text, at the start of the output.
 fn hand_out(seven: bool, f: Segments, line: &[u8], out: &mut [u8])
     requires { ⌜ Ordered f (length (now line)) ⌝ }
@@ -59,14 +73,14 @@ fn hand_out(seven: bool, f: Segments, line: &[u8], out: &mut [u8])
     let body = f.body;
     let tail = f.tail;
     let shape = f.shape;
-    let n = copy_part(seven, false, f.header, &line[head..inner], &mut *out, 0);
+    let n = f.header;
+    copy_part(seven, false, n, &line[head..inner], &mut *out);
     copy_part(
         seven,
         is_clear(shape),
         f.text,
         &line[body..tail],
-        &mut *out,
-        n,
+        &mut out[n..],
     );
 }
 

@@ -6,7 +6,7 @@ use borrow.Author.Tests.{not-true, not-false}
 use Rattle.bits.specs.Calls.{called}
 use Rattle.block.specs.Answers.{afterReading}
 use Rattle.block_framing.specs.Framings.{ofWalk, ofUnframed}
-use Rattle.block_reader.proofs.ReadBlock.{found-framing, ordered, closed, lengths-small, counts-kept, wrong-check, output-short, is-taken, taken-numbers, taken-output, no-framing, is-refused}
+use Rattle.block_reader.proofs.ReadBlock.{found-framing, ordered, lengths-small, counts-kept, wrong-check, output-short, is-taken, taken-numbers, taken-output, no-framing, is-refused}
 use borrow.Author.Needs.{needs}
 use Rattle.block_reader.proofs.read.read_block.Statement.{statement}
 use Rattle.block_reader.proofs.read.read_block.Tie as tie
@@ -32,27 +32,27 @@ returns c =
 check-right-requires : tie.Need-check-right-requires
 check-right-requires c κs =
     let a = c .before .before .before .before .before .before .args in
-    let x = found-framing (a .method) (a .parity) (a .line .now) _ (sym (c .before .before .before .find-framing .ensures) ∙ ap ofWalk (c .before .walked .given .1)) in
-    (ordered (a .method) (a .parity) (a .line .now) _ x, (closed (a .method) (a .parity) (a .line .now) _ x, counts-kept (a .method) (a .parity) (a .line .now) _ x))
+    let x = found-framing (a .method) (a .parity) (a .line .now) (c .before .before .before .find-framing .ensures) (c .before .walked .given .1) in
+    (ordered (a .method) (a .parity) (a .line .now) _ x, counts-kept (a .method) (a .parity) (a .line .now) _ x)
 
 returns-2 : tie.Need-returns-2
 returns-2 c =
     let a = c .before .before .before .before .before .before .before .before .args in
-    let x = found-framing (a .method) (a .parity) (a .line .now) _ (sym (c .before .before .before .before .before .find-framing .ensures) ∙ ap ofWalk (c .before .before .before .walked .given .1)) in
+    let x = found-framing (a .method) (a .parity) (a .line .now) (c .before .before .before .before .before .find-framing .ensures) (c .before .before .before .walked .given .1) in
     let e = wrong-check (a .method) (a .parity) (a .line .now) _ x (c .before .check-right .ensures) (length (a .out .now)) (not-true _ (c .if1 .taken)) in
     is-refused (a .out .now) e
 
 add-needed : tie.Need-add-needed
 add-needed c =
     let a = c .before .before .before .before .before .before .before .before .before .args in
-    let x = found-framing (a .method) (a .parity) (a .line .now) _ (sym (c .before .before .before .before .before .before .find-framing .ensures) ∙ ap ofWalk (c .before .before .before .before .walked .given .1)) in
+    let x = found-framing (a .method) (a .parity) (a .line .now) (c .before .before .before .before .before .before .find-framing .ensures) (c .before .before .before .before .walked .given .1) in
     let s = lengths-small (a .method) (a .parity) (a .line .now) _ x in
     omega (arith, s .0, s .1)
 
 returns-3 : tie.Need-returns-3
 returns-3 c =
     let a = c .before .before .before .before .before .before .before .before .before .before .args in
-    let x = found-framing (a .method) (a .parity) (a .line .now) _ (sym (c .before .before .before .before .before .before .before .find-framing .ensures) ∙ ap ofWalk (c .before .before .before .before .before .walked .given .1)) in
+    let x = found-framing (a .method) (a .parity) (a .line .now) (c .before .before .before .before .before .before .before .find-framing .ensures) (c .before .before .before .before .before .walked .given .1) in
     let e = output-short (a .method) (a .parity) (a .line .now) _ x (c .before .before .before .check-right .ensures) (length (a .out .now)) (not-false _ (c .before .before .if1 .left)) (c .if2 .taken) in
     is-refused (a .out .now) e
 
@@ -62,7 +62,7 @@ is-seven-requires c κs = search needs
 hand-out-requires : tie.Need-hand-out-requires
 hand-out-requires c κs =
     let a = c .before .before .before .before .before .before .before .before .before .before .before .before .args in
-    let x = found-framing (a .method) (a .parity) (a .line .now) _ (sym (c .before .before .before .before .before .before .before .before .before .find-framing .ensures) ∙ ap ofWalk (c .before .before .before .before .before .before .before .walked .given .1)) in
+    let x = found-framing (a .method) (a .parity) (a .line .now) (c .before .before .before .before .before .before .before .before .before .find-framing .ensures) (c .before .before .before .before .before .before .before .walked .given .1) in
     (ordered (a .method) (a .parity) (a .line .now) _ x, (rw (c .before .is-seven .ensures) (counts-kept (a .method) (a .parity) (a .line .now) _ x), omega (arith, c .before .before .if2 .left)))
 
 held-requires : tie.Need-held-requires
@@ -74,7 +74,7 @@ same-length c = search needs
 returns-4 : tie.Need-returns-4
 returns-4 c =
     let a = c .before .before .before .before .before .before .before .before .before .before .before .before .before .before .before .before .args in
-    let x = found-framing (a .method) (a .parity) (a .line .now) _ (sym (c .before .before .before .before .before .before .before .before .before .before .before .before .before .find-framing .ensures) ∙ ap ofWalk (c .before .before .before .before .before .before .before .before .before .before .before .walked .given .1)) in
+    let x = found-framing (a .method) (a .parity) (a .line .now) (c .before .before .before .before .before .before .before .before .before .before .before .before .before .find-framing .ensures) (c .before .before .before .before .before .before .before .before .before .before .before .walked .given .1) in
     let fits = c .before .before .before .before .before .before .if2 .left in
     let e = is-taken (a .method) (a .parity) (a .line .now) _ x (c .before .before .before .before .before .before .before .before .before .check-right .ensures) (length (a .out .now)) (not-false _ (c .before .before .before .before .before .before .before .before .if1 .left)) fits in
     ap₂ called (c .held .ensures ∙ taken-numbers (a .method) (a .parity) (a .line .now) _ x)
