@@ -13,6 +13,7 @@ ghost use mathlib.Core.Bool.{false};
 ghost use mathlib.Core.List.{[], _∷_};
 ghost use Rattle.block.specs.Characters.{isSeven};
 ghost use Rattle.block_framing.specs.Framings.{keptBytes};
+ghost use Rattle.block_segments.specs.Segment.{segmentBytes};
 ghost use Rattle.block_check.specs.Numbers.{startOf, numberAfter};
 
 // The number before any byte.
@@ -52,7 +53,7 @@ pub fn add_run(m: Method, number: u16, run: &[u8]) -> u16
 }
 
 // What a segment keeps, added.
-pub fn add_kept(m: Method, number: u16, clear: bool, part: &[u8]) -> u16
+fn add_kept(m: Method, number: u16, clear: bool, part: &[u8]) -> u16
     ensures { λ r. ⌜ r ≡ numberAfter m number (keptBytes clear (isSeven m) false (now (part .entry))) ⌝ }
 {
     match m {
@@ -61,4 +62,14 @@ pub fn add_kept(m: Method, number: u16, clear: bool, part: &[u8]) -> u16
         Method::Cyclic => enter_kept(Generator16::Ccitt, number, clear, part),
         Method::CyclicAlternative => enter_kept(Generator16::Ibm, number, clear, part),
     }
+}
+
+// A segment that is said to keep `kept` bytes, added.
+pub fn add_segment(m: Method, number: u16, clear: bool, kept: usize, part: &[u8]) -> u16
+    ensures { λ r. ⌜ r ≡ numberAfter m number (segmentBytes clear (isSeven m) kept (now (part .entry))) ⌝ }
+{
+    if kept == part.len() {
+        return add_run(m, number, part);
+    }
+    add_kept(m, number, clear, part)
 }

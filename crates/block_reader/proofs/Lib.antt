@@ -1,3 +1,2 @@
-pub mod HandedOut
+pub mod PartLaws
 pub mod ReadBlock
-pub mod CountedBytes

@@ -10,10 +10,8 @@ use block::is_seven;
 use block_framing::Segments;
 use block_framing::WalkEnd;
 use block_framing::find_framing;
-use block_segments::copy_kept;
-use block_segments::copy_whole;
+use block_segments::copy_segment;
 ghost use mathlib.Core.Path.{_≡_};
-ghost use mathlib.Core.Bool.{false};
 ghost use mathlib.Core.List.{_++_, map};
 ghost use Prim.Native.Nat.{_+_, _≤_};
 ghost use lib.ListN.{length};
@@ -22,7 +20,7 @@ ghost use Rattle.bits.specs.Calls.{called};
 ghost use Rattle.block.specs.Characters.{character, isSeven};
 ghost use Rattle.block.specs.Read as rule;
 ghost use Rattle.block.specs.Answers.{ofRead, readCall};
-ghost use Rattle.block_framing.specs.Framings.{framed, framedAnswer, keptBytes, headerIn, textIn, Ordered};
+ghost use Rattle.block_framing.specs.Framings.{framed, framedAnswer, headerIn, textIn, Ordered};
 ghost use Rattle.block_reader.specs.Counts.{CountsKept, heldBy};
 
 // What an accepted block holds.
@@ -40,18 +38,6 @@ fn held(f: Segments) -> Block
     }
 }
 
-// The characters of the `kept` bytes of a segment, at the start of an output.
-fn copy_part(seven: bool, clear: bool, kept: usize, part: &[u8], out: &mut [u8])
-    requires { ⌜ kept ≡ length (keptBytes clear seven false (now part)) ⌝ }
-    ensures { λ _. ⌜ now (out .exit) ≡ sets (now (out .entry)) 0 (map (character seven) (keptBytes clear seven false (now (part .entry)))) ⌝ }
-{
-    if kept == part.len() {
-        copy_whole(seven, part, &mut *out);
-        return;
-    }
-    copy_kept(seven, clear, part, &mut *out);
-}
-
 // Header, then text, at the start of the output.
 fn hand_out(seven: bool, f: Segments, line: &[u8], out: &mut [u8])
     requires { ⌜ Ordered f (length (now line)) ⌝ }
@@ -65,8 +51,8 @@ fn hand_out(seven: bool, f: Segments, line: &[u8], out: &mut [u8])
     let tail = f.tail;
     let shape = f.shape;
     let n = f.header;
-    copy_part(seven, false, n, &line[head..inner], &mut *out);
-    copy_part(
+    copy_segment(seven, false, n, &line[head..inner], &mut *out);
+    copy_segment(
         seven,
         is_clear(shape),
         f.text,

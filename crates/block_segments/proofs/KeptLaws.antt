@@ -3,12 +3,15 @@ use mathlib.Core.Path.{_≡_, refl, sym, ap, _∙_}
 use Prim.Native.Nat.{ℕ, _+_, _≤_, _<_}
 use native.Mathlib.Numerals.{add-one}
 use native.Mathlib.Omega.{arith}
-use mathlib.Core.Bool.{Bool, true, false}
+use mathlib.Core.Bool.{Bool, true, false, cond}
 use mathlib.Core.List.{List, [], _∷_, _++_}
+use borrow.Author.Tests.{eqb-true}
+use lib.Dec.{eqb}
 use lib.ListN.{length, getD, drop, drop-of-length-le}
 use lib.Seq.{drop-cons}
 use Rattle.bits.specs.Differences.{consIf}
 use Rattle.block_framing.specs.Framings.{isKept, nextBehind, keptBytes}
+use Rattle.block_segments.specs.Segment.{segmentBytes}
 
 pub consIf-append : (t : Bool) (b : ℕ) (xs ys : List ℕ) → consIf t b (xs ++ ys) ≡ consIf t b xs ++ ys
 consIf-append true b xs ys = refl
@@ -41,7 +44,7 @@ kept-le clear seven behind (b ∷ bs) = go (keptBytes clear seven (nextBehind cl
     go ks true h = omega arith
     go ks false h = omega arith
 
-pub kept-all : (clear seven behind : Bool) (bs : List ℕ) → length (keptBytes clear seven behind bs) ≡ length bs → keptBytes clear seven behind bs ≡ bs
+kept-all : (clear seven behind : Bool) (bs : List ℕ) → length (keptBytes clear seven behind bs) ≡ length bs → keptBytes clear seven behind bs ≡ bs
 unfolding keptBytes
 kept-all clear seven behind [] e = refl
 kept-all clear seven behind (b ∷ bs) e =
@@ -50,3 +53,11 @@ kept-all clear seven behind (b ∷ bs) e =
     go : (ks : List ℕ) (t : Bool) → length ks ≤ length bs → (length ks ≡ length bs → ks ≡ bs) → length (consIf t b ks) ≡ length (b ∷ bs) → consIf t b ks ≡ b ∷ bs
     go ks true h f q = ap (λ l. b ∷ l) (f (omega (arith, q)))
     go ks false h f q = absurd (omega (arith, h, q))
+
+-- a segment with the right number
+pub segment-kept : (clear seven : Bool) (kept : ℕ) (part : List ℕ) → kept ≡ length (keptBytes clear seven false part) → segmentBytes clear seven kept part ≡ keptBytes clear seven false part
+segment-kept clear seven kept part e = go (eqb kept (length part)) refl
+  where
+    go : (t : Bool) → eqb kept (length part) ≡ t → cond t part (keptBytes clear seven false part) ≡ keptBytes clear seven false part
+    go true q = sym (kept-all clear seven false part (sym e ∙ eqb-true kept (length part) q))
+    go false q = refl

@@ -11,6 +11,7 @@ ghost use lib.Seq.{sets};
 ghost use Rattle.bits.specs.Differences.{consIf};
 ghost use Rattle.block.specs.Characters as rule;
 ghost use Rattle.block_framing.specs.Framings.{keptBytes};
+ghost use Rattle.block_segments.specs.Segment.{segmentBytes};
 
 // Stores b at n where it is kept and the output has that place, and answers the next place.
 fn put_if(out: &mut [u8], n: usize, keep: bool, b: u8) -> usize
@@ -58,7 +59,7 @@ fn fitting(size: usize, room: usize) -> usize
 }
 
 // The characters of a segment that keeps every byte.
-pub fn copy_whole(seven: bool, part: &[u8], out: &mut [u8])
+fn copy_whole(seven: bool, part: &[u8], out: &mut [u8])
     ensures { λ _. ⌜ now (out .exit) ≡ sets (now (out .entry)) 0 (map (rule.character seven) (now (part .entry))) ⌝ }
 {
     let size = fitting(part.len(), out.len());
@@ -67,4 +68,15 @@ pub fn copy_whole(seven: bool, part: &[u8], out: &mut [u8])
         out[i] = character(seven, part[i]);
         i += 1;
     }
+}
+
+// The characters of a segment that is said to keep `kept` bytes.
+pub fn copy_segment(seven: bool, clear: bool, kept: usize, part: &[u8], out: &mut [u8])
+    ensures { λ _. ⌜ now (out .exit) ≡ sets (now (out .entry)) 0 (map (rule.character seven) (segmentBytes clear seven kept (now (part .entry)))) ⌝ }
+{
+    if kept == part.len() {
+        copy_whole(seven, part, &mut *out);
+        return;
+    }
+    copy_kept(seven, clear, part, &mut *out);
 }

@@ -5,7 +5,7 @@ mod kept;
 mod sum;
 
 pub use copy::copy_kept;
-pub use copy::copy_whole;
+pub use copy::copy_segment;
 pub use kept::is_kept;
 pub use kept::next_behind;
 pub use sum::sum_kept;
