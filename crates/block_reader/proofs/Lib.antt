@@ -1,4 +1,2 @@
-pub mod HandedOut
-pub mod Kept
+pub mod PartLaws
 pub mod ReadBlock
-pub mod ReceivedChecks

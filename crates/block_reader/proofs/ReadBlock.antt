@@ -22,10 +22,10 @@ use Rattle.block.specs.Signs.{endByte}
 use Rattle.block.specs.Characters.{isSeven, character}
 use Rattle.block.specs.Marks.{isHeader, isText, sift, counted, checkBytes, hasInner, shapeOf}
 use Rattle.block.specs.Check.{checkOf, checkLength}
-use Rattle.block.specs.Read.{Framed, found, unframed, askCheck, ReadAnswer, taken, partsOf, outputLength, readBlock, readOutput}
+use Rattle.block.specs.Read.{Framed, found, unframed, askCheck, Parts, ReadAnswer, taken, partsOf, outputLength, readBlock, readOutput}
 use Rattle.block.specs.Read as rule
 use Rattle.bits.specs.Calls.{called}
-use Rattle.block.specs.Answers.{block, refused, shapeNumber, readNumber, readValue, ofReadAnswer, afterReading}
+use Rattle.block.specs.Answers.{Numbers, block, refused, shapeNumber, readNumber, readValue, ofReadAnswer, afterReading, readCall}
 use Rattle.block.proofs.Lists.{map-append}
 use Rattle.block.proofs.Passed.{Passed, passed}
 use Rattle.block_framing.specs.declared.Segments.{Segments}
@@ -45,27 +45,35 @@ length-sift is (k ∷ ks) (b ∷ line) = go (is k) (length-sift is ks line)
     go true h = omega arith
     go false h = omega arith
 
+-- a refusal leaves the output
+is-refused : {a : ReadAnswer} {n v : ℕ} (out : List ℕ) → a ≡ rule.refusal n v → called (refused n v) out ≡ afterReading a out
+unfolding readOutput
+is-refused out q = sym (ap (λ x. afterReading x out) q)
+
 -- ---- the framing that was found
 
-pub record Found (m : Method) (p : Parity) (line : List ℕ) (r : Segments) : Type 0 where
+record Found (m : Method) (p : Parity) (line : List ℕ) (r : Segments) : Type 0 where
   pub marks : List Mark
   pub field : Field
   pub end : EndSign
   pub rules : rule.framed m p line ≡ found marks field end
   pub framing : r ≡ framingAt (startOf (isSeven m) line) field end (tallied noTally 0 marks) (length marks)
 
-pub found-framing : (m : Method) (p : Parity) (line : List ℕ) (r : Segments) → framedAnswer (isSeven m) line (rule.framed m p line) ≡ framed r → Found m p line r
+found-framing : (m : Method) (p : Parity) (line : List ℕ) (r : Segments) → framed r ≡ framedAnswer (isSeven m) line (rule.framed m p line) → Found m p line r
 found-framing m p line r q = go (rule.framed m p line) refl
   where
     go : (x : Framed) → rule.framed m p line ≡ x → Found m p line r
     go (found ks f e) s =
-        let c : framed (framingAt (startOf (isSeven m) line) f e (tallied noTally 0 ks) (length ks)) ≡ framed r = sym (ap (framedAnswer (isSeven m) line) s) ∙ q in
+        let c : framed r ≡ framed (framingAt (startOf (isSeven m) line) f e (tallied noTally 0 ks) (length ks)) = q ∙ ap (framedAnswer (isSeven m) line) s in
         record { marks = ks; field = f; end = e; rules = s; framing = cc }
     go (unframed n v) s =
-        let c : refusal n v ≡ framed r = sym (ap (framedAnswer (isSeven m) line) s) ∙ q in
+        let c : framed r ≡ refusal n v = q ∙ ap (framedAnswer (isSeven m) line) s in
         absurd (let z : _≡_ {A = ℕ} 0 1 = cc in omega arith)
 
-module _ (m : Method) (p : Parity) (line : List ℕ) (r : Segments) (x : Found m p line r) where
+module _ (m : Method) (p : Parity) (line : List ℕ) (r : Segments) (q : framed r ≡ framedAnswer (isSeven m) line (rule.framed m p line)) where
+  x : Found m p line r
+  x = found-framing m p line r q
+
   abbrev ks : List Mark
   ks = x .marks
 
@@ -87,9 +95,6 @@ module _ (m : Method) (p : Parity) (line : List ℕ) (r : Segments) (x : Found m
   pub ordered : Ordered r (length line)
   ordered = finds .ordered
 
-  pub closed : length line ≡ r .after + checkLength m
-  closed = through .closes ∙ ap (λ n. n + checkLength m) (sym (carried .behind))
-
   header-length : r .header ≡ length (map (character (isSeven m)) (sift isHeader ks line))
   header-length = carried .headers ∙ tally .headers ∙ sym (length-map (sift isHeader ks line) (character (isSeven m)))
 
@@ -103,61 +108,18 @@ module _ (m : Method) (p : Parity) (line : List ℕ) (r : Segments) (x : Found m
     omega (arith, carried .texts, tally .texts, length-sift isText ks line, through .short),
   )
 
-  pub needed : r .header + r .text ≡ outputLength (partsOf m line ks (x .field) (x .end))
+  abbrev parts : Parts
+  parts = partsOf m line ks (x .field) (x .end)
+
+  needed : r .header + r .text ≡ outputLength parts
   needed = ap₂ (λ i j. i + j) header-length text-length
 
   pub counts-kept : CountsKept (isSeven m) r line
   counts-kept = record { header = carried .headers ∙ tally .headers ∙ ap length (finds .headers); text = carried .texts ∙ tally .texts ∙ ap length (finds .texts) }
 
-  -- ---- 18 and 19
-
-  test : Bool
-  test = same (bitsOf (checkBytes ks line)) (checkOf m p (counted ks line))
-
-  after-check : ℕ → Bool → ReadAnswer
-  after-check room t =
-      cond t
-      (cond (leb (outputLength (partsOf m line ks (x .field) (x .end))) room) (taken (partsOf m line ks (x .field) (x .end)))
-      (rule.refusal 19 (outputLength (partsOf m line ks (x .field) (x .end)))))
-      (rule.refusal 18 0)
-
-  answered : (room : ℕ) → readBlock m p line room ≡ after-check room test
-  unfolding readBlock after-check test
-  answered room = ap (askCheck m p line room) (x .rules)
-
-  module _ {right : Bool} (c : right ≡ same (bitsOf (drop (r .after) line)) (checkOf m p (countedIn (isSeven m) r line))) where
-    checked : right ≡ test
-    unfolding test
-    checked =
-        c ∙ ap₂ (λ n bs. same (bitsOf (drop n line)) (checkOf m p bs)) (carried .behind) (sym (finds .counts))
-
-    pub wrong-check : (room : ℕ) → right ≡ false → readBlock m p line room ≡ rule.refusal 18 0
-    unfolding after-check
-    wrong-check room e = answered room ∙ ap (after-check room) (sym checked ∙ e)
-
-    module _ (room : ℕ) (e : right ≡ true) where
-      right-check : readBlock m p line room
-          ≡ cond (leb (outputLength (partsOf m line ks (x .field) (x .end))) room) (taken (partsOf m line ks (x .field) (x .end)))
-          (rule.refusal 19 (outputLength (partsOf m line ks (x .field) (x .end))))
-      unfolding after-check
-      right-check = answered room ∙ ap (after-check room) (sym checked ∙ e)
-
-      pub output-short : room < r .header + r .text → readBlock m p line room ≡ rule.refusal 19 (r .header + r .text)
-      output-short h =
-          right-check
-          ∙ ap (λ t. cond t (taken (partsOf m line ks (x .field) (x .end))) (rule.refusal 19 (outputLength (partsOf m line ks (x .field) (x .end)))))
-          (lt-leb (outputLength (partsOf m line ks (x .field) (x .end))) room (omega (arith, needed)))
-          ∙ ap (rule.refusal 19) (sym needed)
-
-      pub is-taken : r .header + r .text ≤ room → readBlock m p line room ≡ taken (partsOf m line ks (x .field) (x .end))
-      is-taken h =
-          right-check
-          ∙ ap (λ t. cond t (taken (partsOf m line ks (x .field) (x .end))) (rule.refusal 19 (outputLength (partsOf m line ks (x .field) (x .end)))))
-          (le-leb (outputLength (partsOf m line ks (x .field) (x .end))) room (omega (arith, needed)))
-
   -- ---- what a taken block answers and puts out
 
-  pub taken-numbers : heldBy r ≡ ofReadAnswer (taken (partsOf m line ks (x .field) (x .end)))
+  taken-numbers : heldBy r ≡ ofReadAnswer (taken parts)
   taken-numbers =
       let s : r .shape ≡ shapeOf (hasInner ks) (x .field) =
       ap (λ (y : Segments). y .shape) (x .framing) ∙ framing-shape (isSeven m) line ks (x .field) (x .end) (through .walked) in
@@ -165,26 +127,58 @@ module _ (m : Method) (p : Parity) (line : List ℕ) (r : Segments) (x : Found m
       ∙ ap₂ (λ i j. block (shapeNumber (shapeOf (hasInner ks) (x .field))) (endByte (x .end)) i j (r .counted)) header-length text-length
       ∙ ap (block (shapeNumber (shapeOf (hasInner ks) (x .field))) (endByte (x .end)) (length (map (character (isSeven m)) (sift isHeader ks line))) (length (map (character (isSeven m)) (sift isText ks line)))) (carried .counts ∙ tally .counts)
 
-  pub taken-output : (out : List ℕ) {after : List ℕ} → r .header + r .text ≤ length out
-      → after ≡ sets out 0 (map (character (isSeven m)) (headerIn (isSeven m) r line ++ textIn (isSeven m) r line))
-      → after ≡ readOutput (taken (partsOf m line ks (x .field) (x .end))) out
+  taken-output : (out : List ℕ) {after : List ℕ} → r .header + r .text ≤ length out
+      → after ≡ sets out 0 (map (character (isSeven m)) (headerIn (isSeven m) r line ++ textIn (isSeven m) r line)) → after ≡ readOutput (taken parts) out
   unfolding readOutput
-  taken-output out h q =
+  taken-output out h s =
       let g = character (isSeven m) in
       let both : map g (headerIn (isSeven m) r line ++ textIn (isSeven m) r line) ≡ map g (sift isHeader ks line) ++ map g (sift isText ks line) =
       ap (map g) (ap₂ _++_ (sym (finds .headers)) (sym (finds .texts))) ∙ map-append g (sift isHeader ks line) (sift isText ks line) in
       let vs = map g (sift isHeader ks line) ++ map g (sift isText ks line) in
-      let n : length vs ≡ outputLength (partsOf m line ks (x .field) (x .end)) = length-append (map g (sift isHeader ks line)) (map g (sift isText ks line)) in
-      q ∙ ap (sets out 0) both ∙ sets-eq vs out 0 (omega (arith, n, needed)) ∙ ap (λ k. vs ++ drop k out) (zero-add (length vs) ∙ n)
+      let n : length vs ≡ outputLength parts = length-append (map g (sift isHeader ks line)) (map g (sift isText ks line)) in
+      s ∙ ap (sets out 0) both ∙ sets-eq vs out 0 (omega (arith, n, needed)) ∙ ap (λ k. vs ++ drop k out) (zero-add (length vs) ∙ n)
+
+  -- ---- 18 and 19
+
+  module _ (out : List ℕ) {right : Bool} (c : right ≡ same (bitsOf (drop (r .after) line)) (checkOf m p (countedIn (isSeven m) r line))) where
+    after-check : Bool → ReadAnswer
+    after-check t = cond t (cond (leb (outputLength parts) (length out)) (taken parts) (rule.refusal 19 (outputLength parts))) (rule.refusal 18 0)
+
+    answered : readBlock m p line (length out) ≡ after-check right
+    unfolding readBlock after-check
+    answered =
+        ap (askCheck m p line (length out)) (x .rules)
+        ∙ ap after-check (sym (c ∙ ap₂ (λ n bs. same (bitsOf (drop n line)) (checkOf m p bs)) (carried .behind) (sym (finds .counts))))
+
+    pub wrong-check : right ≡ false → called (refused 18 0) out ≡ readCall m p line out
+    unfolding after-check
+    wrong-check e = is-refused out (answered ∙ ap after-check e)
+
+    module _ (e : right ≡ true) where
+      right-check : readBlock m p line (length out) ≡ cond (leb (outputLength parts) (length out)) (taken parts) (rule.refusal 19 (outputLength parts))
+      unfolding after-check
+      right-check = answered ∙ ap after-check e
+
+      pub output-short : length out < r .header + r .text → called (refused 19 (r .header + r .text)) out ≡ readCall m p line out
+      output-short h =
+          is-refused out
+          (right-check ∙ ap (λ t. cond t (taken parts) (rule.refusal 19 (outputLength parts))) (lt-leb (outputLength parts) (length out) (omega (arith, needed)))
+          ∙ ap (rule.refusal 19) (sym needed))
+
+      pub is-taken : r .header + r .text ≤ length out → {numbers : Numbers} {after : List ℕ} → numbers ≡ heldBy r → after ≡ sets out 0 (map (character (isSeven m)) (headerIn (isSeven m) r line ++ textIn (isSeven m) r line))
+          → called numbers after ≡ readCall m p line out
+      is-taken h n s =
+          ap₂ called (n ∙ taken-numbers) (taken-output out h s)
+          ∙ sym (ap (λ z. afterReading z out) (right-check ∙ ap (λ t. cond t (taken parts) (rule.refusal 19 (outputLength parts))) (le-leb (outputLength parts) (length out) (omega (arith, needed)))))
 
 -- ---- no framing
 
-pub no-framing : (m : Method) (p : Parity) (line : List ℕ) (room : ℕ) {w : WalkEnd} {r : ReadRefusal} → ofWalk w ≡ framedAnswer (isSeven m) line (rule.framed m p line)
-    → w ≡ code.Refused r → readBlock m p line room ≡ rule.refusal (readNumber r) (readValue r)
+pub no-framing : (m : Method) (p : Parity) (line out : List ℕ) {w : WalkEnd} {r : ReadRefusal} → ofWalk w ≡ framedAnswer (isSeven m) line (rule.framed m p line) → w ≡ code.Refused r
+    → called (refused (readNumber r) (readValue r)) out ≡ readCall m p line out
 unfolding readBlock
-no-framing m p line room {w} {r} e q = go (rule.framed m p line) refl
+no-framing m p line out {w} {r} e q = is-refused out (go (rule.framed m p line) refl)
   where
-    go : (x : Framed) → rule.framed m p line ≡ x → askCheck m p line room (rule.framed m p line) ≡ rule.refusal (readNumber r) (readValue r)
+    go : (x : Framed) → rule.framed m p line ≡ x → askCheck m p line (length out) (rule.framed m p line) ≡ rule.refusal (readNumber r) (readValue r)
     go (found ks f d) s =
         let c : refusal (readNumber r) (readValue r) ≡ framed (framingAt (startOf (isSeven m) line) f d (tallied noTally 0 ks) (length ks)) = sym (ap ofWalk q) ∙ e ∙ ap (framedAnswer (isSeven m) line) s in
         absurd (let z : _≡_ {A = ℕ} 0 1 = cc in omega arith)
@@ -192,9 +186,4 @@ no-framing m p line room {w} {r} e q = go (rule.framed m p line) refl
         let c : refusal (readNumber r) (readValue r) ≡ refusal n v = sym (ap ofWalk q) ∙ e ∙ ap (framedAnswer (isSeven m) line) s in
         let i : n ≡ readNumber r = cc in
         let j : v ≡ readValue r = cc in
-        ap (askCheck m p line room) s ∙ ap₂ rule.refusal i j
-
--- a refusal leaves the output
-pub is-refused : {a : ReadAnswer} {n v : ℕ} (out : List ℕ) → a ≡ rule.refusal n v → called (refused n v) out ≡ afterReading a out
-unfolding readOutput
-is-refused out q = sym (ap (λ x. afterReading x out) q)
+        ap (askCheck m p line (length out)) s ∙ ap₂ rule.refusal i j

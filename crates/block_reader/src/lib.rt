@@ -3,6 +3,5 @@
 // bytes of header and text.
 mod check;
 mod read;
-mod segments;
 
 pub use read::read_block;

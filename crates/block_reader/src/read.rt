@@ -1,6 +1,5 @@
 // Reading a block: questions 11 to 19, then header and text handed out.
 use crate::check::check_right;
-use crate::segments::copy_part;
 use block::Block;
 use block::BlockRead;
 use block::Method;
@@ -11,26 +10,18 @@ use block::is_seven;
 use block_framing::Segments;
 use block_framing::WalkEnd;
 use block_framing::find_framing;
+use block_segments::copy_segment;
 ghost use mathlib.Core.Path.{_≡_};
 ghost use mathlib.Core.List.{_++_, map};
 ghost use Prim.Native.Nat.{_+_, _≤_};
 ghost use lib.ListN.{length};
 ghost use lib.Seq.{sets};
 ghost use Rattle.bits.specs.Calls.{called};
-ghost use Rattle.block.specs.Characters.{character};
+ghost use Rattle.block.specs.Characters.{character, isSeven};
+ghost use Rattle.block.specs.Read as rule;
 ghost use Rattle.block.specs.Answers.{ofRead, readCall};
-ghost use Rattle.block_framing.specs.Framings.{ofWalk, ofUnframed, headerIn, textIn, Ordered};
+ghost use Rattle.block_framing.specs.Framings.{framed, framedAnswer, headerIn, textIn, Ordered};
 ghost use Rattle.block_reader.specs.Counts.{CountsKept, heldBy};
-
-// The refusal of a walk that found no framing.
-fn unframed(w: WalkEnd) -> BlockRead
-    ensures { λ r. ⌜ ofRead r ≡ ofUnframed (ofWalk w) ⌝ }
-{
-    match w {
-        WalkEnd::Refused(r) => BlockRead::Refused(r),
-        WalkEnd::Found(_) => BlockRead::Refused(ReadRefusal::NoEnd),
-    }
-}
 
 // What an accepted block holds.
 fn held(f: Segments) -> Block
@@ -59,25 +50,28 @@ fn hand_out(seven: bool, f: Segments, line: &[u8], out: &mut [u8])
     let body = f.body;
     let tail = f.tail;
     let shape = f.shape;
-    let n = copy_part(seven, false, f.header, &line[head..inner], &mut *out, 0);
-    copy_part(
+    let n = f.header;
+    copy_segment(seven, false, n, &line[head..inner], &mut *out);
+    copy_segment(
         seven,
         is_clear(shape),
         f.text,
         &line[body..tail],
-        &mut *out,
-        n,
+        &mut out[n..],
     );
 }
 
-// Document 01, part 3: reads one block.
-pub fn read_block(method: Method, parity: Parity, line: &[u8], out: &mut [u8]) -> BlockRead
+// Questions 18 and 19 of a framed line, then header and text handed out.
+fn read_framed(
+    method: Method,
+    parity: Parity,
+    f: Segments,
+    line: &[u8],
+    out: &mut [u8],
+) -> BlockRead
+    requires { ⌜ framed f ≡ framedAnswer (isSeven method) (now line) (rule.framed method parity (now line)) ⌝ }
     ensures { λ r. ⌜ called (ofRead r) (now (out .exit)) ≡ readCall method parity (now (line .entry)) (now (out .entry)) ⌝ }
 {
-    let walked = find_framing(method, parity, line);
-    let WalkEnd::Found(f) = walked else {
-        return unframed(walked);
-    };
     if !check_right(method, parity, f, line) {
         return BlockRead::Refused(ReadRefusal::WrongCheck);
     }
@@ -88,4 +82,14 @@ pub fn read_block(method: Method, parity: Parity, line: &[u8], out: &mut [u8]) -
     hand_out(is_seven(method), f, line, &mut *out);
     let block = held(f);
     BlockRead::Taken(block)
+}
+
+// Document 01, part 3: reads one block.
+pub fn read_block(method: Method, parity: Parity, line: &[u8], out: &mut [u8]) -> BlockRead
+    ensures { λ r. ⌜ called (ofRead r) (now (out .exit)) ≡ readCall method parity (now (line .entry)) (now (out .entry)) ⌝ }
+{
+    match find_framing(method, parity, line) {
+        WalkEnd::Refused(r) => BlockRead::Refused(r),
+        WalkEnd::Found(f) => read_framed(method, parity, f, line, &mut *out),
+    }
 }

@@ -1,64 +1,69 @@
 -- `hand_out` meets its contract: the header is stored first, the text behind it. Assumes nothing.
-use Rattle.block_reader.proofs.HandedOut.{header-room, text-room, both-handed}
+use Rattle.block_reader.proofs.PartLaws.{both-handed}
 use borrow.Author.Needs.{needs}
 use Rattle.block_reader.proofs.read.hand_out.Statement.{statement}
 use Rattle.block_reader.proofs.read.hand_out.Tie as tie
 
-sub-copy-part : tie.Need-sub-copy-part
-sub-copy-part c = search needs
+sub-copy-segment : tie.Need-sub-copy-segment
+sub-copy-segment c = search needs
 
-part-copy-part-start : tie.Need-part-copy-part-start
-part-copy-part-start c = search needs
+part-copy-segment-start : tie.Need-part-copy-segment-start
+part-copy-segment-start c = search needs
 
-part-copy-part-end : tie.Need-part-copy-part-end
-part-copy-part-end c = search needs
+part-copy-segment-end : tie.Need-part-copy-segment-end
+part-copy-segment-end c = search needs
 
-copy-part-requires : tie.Need-copy-part-requires
-copy-part-requires c κs =
-    let a = c .before .before .before .before .args in
-    header-room (a .seven) (a .f) (a .line .now) (c .before .before .before .before .pre .0) (c .before .before .before .before .pre .1 .0) (a .out .now) (c .before .before .before .before .pre .1 .1)
+copy-segment-requires : tie.Need-copy-segment-requires
+copy-segment-requires c κs = search needs
 
 is-clear-requires : tie.Need-is-clear-requires
 is-clear-requires c κs = search needs
 
-sub-copy-part-2 : tie.Need-sub-copy-part-2
-sub-copy-part-2 c = search needs
+sub-copy-segment-2 : tie.Need-sub-copy-segment-2
+sub-copy-segment-2 c = search needs
 
-part-copy-part-start-2 : tie.Need-part-copy-part-start-2
-part-copy-part-start-2 c = search needs
+part-copy-segment-start-2 : tie.Need-part-copy-segment-start-2
+part-copy-segment-start-2 c = search needs
 
-part-copy-part-end-2 : tie.Need-part-copy-part-end-2
-part-copy-part-end-2 c = search needs
+part-copy-segment-end-2 : tie.Need-part-copy-segment-end-2
+part-copy-segment-end-2 c = search needs
 
-copy-part-requires-2 : tie.Need-copy-part-requires-2
-copy-part-requires-2 c κs =
-    let a = c .before .before .before .before .before .before .before .before .before .before .args in
-    let copied = c .before .before .before .before .before .copy-part in
-    text-room (a .seven) (a .f) (a .line .now) (c .before .before .before .before .before .before .before .before .before .before .pre .0) (c .before .before .before .before .before .before .before .before .before .before .pre .1 .0) (a .out .now) (c .before .before .before .before .before .before .before .before .before .before .pre .1 .1) (copied .ensures .0) (copied .ensures .1)
-    (c .before .before .is-clear .ensures)
+sub-copy-segment-3 : tie.Need-sub-copy-segment-3
+sub-copy-segment-3 c = search needs
+
+part-copy-segment-start-3 : tie.Need-part-copy-segment-start-3
+part-copy-segment-start-3 c = search needs
+
+part-copy-segment-end-3 : tie.Need-part-copy-segment-end-3
+part-copy-segment-end-3 c = search needs
+
+copy-segment-requires-2 : tie.Need-copy-segment-requires-2
+copy-segment-requires-2 c κs = search needs
 
 same-length : tie.Need-same-length
 same-length c = search needs
 
 returns : tie.Need-returns
 returns c =
-    let a = c .before .before .before .before .before .before .before .before .before .before .before .before .before .args in
-    let copied = c .before .before .before .before .before .before .before .before .copy-part in
-    both-handed (a .seven) (a .f) (a .line .now) (c .before .before .before .before .before .before .before .before .before .before .before .before .before .pre .0) (c .before .before .before .before .before .before .before .before .before .before .before .before .before .pre .1 .0) (a .out .now) (c .before .before .before .before .before .before .before .before .before .before .before .before .before .pre .1 .1) (copied .ensures .0) (copied .ensures .1)
-    (c .before .before .before .before .before .is-clear .ensures) (c .before .before .copy-part2 .ensures .1)
+    let s = c .before .before .before .before .before .before .before .before .before .before .before .before .before in
+    both-handed (s .args .seven) (s .args .f) (s .args .line .now) (s .pre .0) (s .pre .1 .0) (s .args .out .now) (s .pre .1 .1) (c .before .before .before .before .before .before .before .before .copy-segment .ensures)
+    (c .before .before .before .before .before .is-clear .ensures) (c .before .before .copy-segment2 .ensures)
 
 pub hand-out-spec : {M : Type 1} → statement M
 hand-out-spec =
     tie.close
     (tie.spec
-    sub-copy-part
-    part-copy-part-start
-    part-copy-part-end
-    copy-part-requires
+    sub-copy-segment
+    part-copy-segment-start
+    part-copy-segment-end
+    copy-segment-requires
     is-clear-requires
-    sub-copy-part-2
-    part-copy-part-start-2
-    part-copy-part-end-2
-    copy-part-requires-2
+    sub-copy-segment-2
+    part-copy-segment-start-2
+    part-copy-segment-end-2
+    sub-copy-segment-3
+    part-copy-segment-start-3
+    part-copy-segment-end-3
+    copy-segment-requires-2
     same-length
     returns)

@@ -1,0 +1,2 @@
+pub mod ClearRuns
+pub mod Pieces

@@ -1,0 +1,3 @@
+pub mod KeptLaws
+pub mod Folding
+pub mod Copying
