@@ -1,4 +1,4 @@
--- `walk` meets its contract. The loop's invariant: what is left of the walk gives the whole. The measure is what is left of the line. Assumes nothing.  
+-- `walk` meets its contract. The loop's invariant: what is left of the walk gives the whole. The measure is what is left of the line. Assumes nothing.
 use mathlib.Core.Path.{ap, _∙_}
 use Prim.Native.Nat.{_+_, _-_}
 use native.Mathlib.Omega.{arith}
