@@ -7,18 +7,13 @@ use block::EndSign;
 use block::Field;
 use block::Judged;
 use block::Mark;
-use block::ReadRefusal;
 use block::SOH;
 use block::STX;
 use block::SYN;
 use block::US;
-use block::character;
 ghost use mathlib.Core.Path.{_≡_};
 ghost use Rattle.block.specs.Signs.{signOf, dle};
 ghost use Rattle.block.specs.Walk as rule;
-ghost use Rattle.block.specs.Answers.{readNumber, readValue};
-ghost use Rattle.block.specs.Scan.{firstFailing};
-ghost use Rattle.block_fields.specs.Fields.{textSigns, isFill};
 
 // Methods 1 and 2 carry no clear text, so their DLE starts nothing.
 fn dle_in_start(seven: bool) -> Judged
@@ -165,48 +160,4 @@ pub fn judge(seven: bool, f: Field, c: u8) -> Judged
         Field::Clear => judge_clear(c),
         Field::ClearDle => judge_clear_dle(c),
     }
-}
-
-// The line ends before an end sign.
-pub fn cut(f: Field) -> ReadRefusal
-    ensures { λ r. ⌜ rule.refused (readNumber r) (readValue r) ≡ rule.cut f ⌝ }
-{
-    match f {
-        Field::Start => ReadRefusal::NoStart,
-        Field::StartDle => ReadRefusal::NoStart,
-        Field::Header => ReadRefusal::NoEnd,
-        Field::HeaderDle => ReadRefusal::NoEnd,
-        Field::Text => ReadRefusal::NoEnd,
-        Field::Clear => ReadRefusal::NoEnd,
-        Field::ClearDle => ReadRefusal::NoEnd,
-    }
-}
-
-// How many signs stand before the text of a line whose end sign stands in field f, and as many after it; 0 where it has no text.
-pub fn text_signs(f: Field) -> usize
-    ensures { λ r. ⌜ r ≡ textSigns f ⌝ }
-{
-    match f {
-        Field::Start => 0,
-        Field::StartDle => 0,
-        Field::Header => 0,
-        Field::HeaderDle => 0,
-        Field::Text => 1,
-        Field::Clear => 0,
-        Field::ClearDle => 2,
-    }
-}
-
-// How many SYN stand ahead of the start.
-pub fn fill_ahead(seven: bool, line: &[u8]) -> usize
-    ensures { λ r. ⌜ r ≡ firstFailing (isFill seven) 0 (now (line .entry)) ⌝ }
-{
-    let mut i = 0;
-    while i < line.len() {
-        if character(seven, line[i]) != SYN {
-            return i;
-        }
-        i += 1;
-    }
-    i
 }

@@ -35,7 +35,7 @@ use Rattle.block_framing.specs.Framings.{Tally, noTally, tallied, segmen
 use Rattle.block_framing.specs.declared.LeftOuts.{LeftOuts}
 use Rattle.block_framing.specs.Walks.{noLeftOuts, leave, leaves, segmentsAt, stopped, answerAfter, walkAnswer}
 use Rattle.block_framing.proofs.Lengths.{segments-framing}
-use Rattle.block_fields.specs.Fields.{textSigns}
+use Rattle.block_end.specs.Ends.{textSigns}
 use Rattle.block_framing.proofs.FramingLaws.{tally-counts, marks-within}
 
 -- ---- a part of a slice

@@ -26,7 +26,7 @@ use Rattle.block.specs.Answers.{readNumber, readValue}
 use Rattle.block.specs.Scan.{firstFailing}
 use Rattle.block.proofs.Scans.{Reached, reached}
 use Rattle.block_scan.specs.Tests.{isPlainByte, isClearByte, isData}
-use Rattle.block_fields.specs.Fields.{textSigns, isFill}
+use Rattle.block_end.specs.Ends.{textSigns, isFill}
 use Rattle.block_framing.specs.declared.LeftOuts.{LeftOuts}
 use Rattle.block_framing.specs.declared.Segments.{Segments}
 use Rattle.block_framing.specs.Framings.{startOf, framed, refusal}

@@ -3,13 +3,11 @@ use Prim.Native.Nat.{ℕ, _+_, _-_, _≤_}
 use mathlib.Core.Bool.{cond}
 use mathlib.Core.List.{List, [], _∷_}
 use lib.Dec.{eqb}
-use Rattle.block.specs.declared.Shape.{Shape}
-use Rattle.block.specs.declared.Shape.the-variants as shape
 use Rattle.block.specs.declared.EndSign.{EndSign}
 use Rattle.block.specs.declared.Mark.{Mark}
 use Rattle.block.specs.declared.Mark.the-variants.{LeftOut, HeaderByte, TextByte, InnerStart, End}
 use Rattle.block.specs.Walk.{Stop, ended, refused, Walked}
-use Rattle.block_fields.specs.Fields.{textSigns}
+use Rattle.block_end.specs.Ends.{textSigns, shapeAt}
 use Rattle.block_framing.specs.declared.LeftOuts.{LeftOuts}
 use Rattle.block_framing.specs.declared.Segments.{Segments}
 use Rattle.block_framing.specs.Framings.{Tally, segments, WalkAnswer, framed, refusal}
@@ -33,12 +31,6 @@ leaves t at (k ∷ ks) = leaves (leave k at t) (at + 1) ks
 pub record Small (t : LeftOuts) (n : ℕ) : Type 0 where
   pub inner : t .inner ≤ n
   pub all : t .all ≤ n
-
--- the shape of a line with so many signs before its text, and its inner start at the place `inner`
-unfoldable pub shapeAt : ℕ → ℕ → Shape
-shapeAt signs inner =
-    cond (eqb signs 0) shape.Header
-    (cond (eqb inner 0) (cond (eqb signs 1) shape.Text shape.ClearText) (cond (eqb signs 1) shape.HeaderText shape.HeaderClearText))
 
 abbrev pub numbers : ℕ → ℕ → ℕ → Tally
 numbers h x n = record { inner = 0; header = h; text = x; counted = n }

@@ -8,12 +8,12 @@ use block::Field;
 use block::Judged;
 use block::Mark;
 use block::ReadRefusal;
-use block::Shape;
 use block::character;
-use block_fields::cut;
-use block_fields::fill_ahead;
+use block_end::cut;
+use block_end::fill_ahead;
+use block_end::shape_at;
+use block_end::text_signs;
 use block_fields::judge;
-use block_fields::text_signs;
 use block_scan::data_run;
 ghost use mathlib.Core.Path.{_≡_};
 ghost use Prim.Native.Nat.{_-_, _≤_};
@@ -55,27 +55,6 @@ fn leave(k: Mark, at: usize, t: LeftOuts) -> LeftOuts
             }
         }
         Mark::End => t,
-    }
-}
-
-fn shape_at(signs: usize, inner: usize) -> Shape
-    ensures { λ r. ⌜ r ≡ walks.shapeAt signs inner ⌝ }
-{
-    if signs == 0 {
-        return Shape::Header;
-    }
-    if inner == 0 {
-        if signs == 1 {
-            Shape::Text
-        } else {
-            Shape::ClearText
-        }
-    } else {
-        if signs == 1 {
-            Shape::HeaderText
-        } else {
-            Shape::HeaderClearText
-        }
     }
 }
 

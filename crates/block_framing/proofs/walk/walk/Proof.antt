@@ -23,10 +23,10 @@ shared-slice-read-character : tie.Need-shared-slice-read-character Inv-loop μ-l
 shared-slice-read-character c = search needs
 
 character-requires : tie.Need-character-requires Inv-loop μ-loop
-character-requires c κs = search needs
+character-requires c κs = tt
 
 judge-requires : tie.Need-judge-requires Inv-loop μ-loop
-judge-requires c κs = search needs
+judge-requires c κs = tt
 
 enum-known-k : tie.Need-enum-known-k Inv-loop μ-loop
 enum-known-k c = search needs
@@ -47,7 +47,7 @@ part-data-run-end : tie.Need-part-data-run-end Inv-loop μ-loop
 part-data-run-end c = omega arith
 
 data-run-requires : tie.Need-data-run-requires Inv-loop μ-loop
-data-run-requires c κs = search needs
+data-run-requires c κs = tt
 
 add-i : tie.Need-add-i Inv-loop μ-loop
 add-i c =
@@ -67,10 +67,10 @@ enum-known-e : tie.Need-enum-known-e Inv-loop μ-loop
 enum-known-e c = search needs
 
 fill-ahead-requires : tie.Need-fill-ahead-requires Inv-loop μ-loop
-fill-ahead-requires c κs = search needs
+fill-ahead-requires c κs = tt
 
 text-signs-requires : tie.Need-text-signs-requires Inv-loop μ-loop
-text-signs-requires c κs = search needs
+text-signs-requires c κs = tt
 
 add-segments-at : tie.Need-add-segments-at Inv-loop μ-loop
 add-segments-at c = omega arith
@@ -105,7 +105,7 @@ enum-told-3 : tie.Need-enum-told-3 Inv-loop μ-loop
 enum-told-3 c = search needs
 
 less-requires : tie.Need-less-requires Inv-loop μ-loop
-less-requires c κs = search needs
+less-requires c κs = tt
 
 returns-4 : tie.Need-returns-4 Inv-loop μ-loop
 returns-4 c =
@@ -113,7 +113,7 @@ returns-4 c =
     ∙ turned (c .before .before .before .before .before .before .before .loop .inv) (c .before .before .before .before .before .before .loop-test .taken) (c .before .before .before .before .character .ensures) (c .before .before .before .judge .ensures) DleOutOfPlace (c .before .enum-told3 .given .1)
 
 cut-requires : tie.Need-cut-requires Inv-loop μ-loop
-cut-requires c κs = search needs
+cut-requires c κs = tt
 
 returns-5 : tie.Need-returns-5 Inv-loop μ-loop
 returns-5 c = out (c .before .before .loop .inv) (c .before .loop-test .left) (c .cut .result) (c .cut .ensures)

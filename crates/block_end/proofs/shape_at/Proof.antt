@@ -1,8 +1,8 @@
 -- `shape_at` meets its contract. Assumes nothing.
 use borrow.Author.Tests.{eq-eqb, ne-eqb}
-use Rattle.block_framing.specs.Walks.{shapeAt}
-use Rattle.block_framing.proofs.walk.shape_at.Statement.{statement}
-use Rattle.block_framing.proofs.walk.shape_at.Tie as tie
+use Rattle.block_end.specs.Ends.{shapeAt}
+use Rattle.block_end.proofs.shape_at.Statement.{statement}
+use Rattle.block_end.proofs.shape_at.Tie as tie
 
 returns : tie.Need-returns
 unfolding shapeAt

@@ -1,7 +1,7 @@
--- `cut` meets its contract. Assumes nothing.
+-- `text_signs` meets its contract. Assumes nothing.
 use borrow.Author.Needs.{needs}
-use Rattle.block_fields.proofs.cut.Statement.{statement}
-use Rattle.block_fields.proofs.cut.Tie as tie
+use Rattle.block_end.proofs.text_signs.Statement.{statement}
+use Rattle.block_end.proofs.text_signs.Tie as tie
 
 enum-told : tie.Need-enum-told
 enum-told c = search needs
@@ -45,8 +45,8 @@ returns-6 c = rw (c .enum-told6 .given .1)
 returns-7 : tie.Need-returns-7
 returns-7 c = rw (c .enum-told7 .given .1)
 
-pub cut-spec : {M : Type 1} → statement M
-cut-spec =
+pub text-signs-spec : {M : Type 1} → statement M
+text-signs-spec =
     tie.close
     (tie.spec
     enum-told

@@ -9,9 +9,9 @@ use borrow.Author.Tests.{eq-eqb, ne-eqb}
 use Rattle.block.specs.Signs.{SYN}
 use Rattle.block.proofs.Scans.{Scanned, scan-begin, scan-on, scan-stops, scan-ends}
 use Rattle.block.proofs.SignTests.{syn-test}
-use Rattle.block_fields.specs.Fields.{isFill}
-use Rattle.block_fields.proofs.fill_ahead.Statement.{statement}
-use Rattle.block_fields.proofs.fill_ahead.Tie as tie
+use Rattle.block_end.specs.Ends.{isFill}
+use Rattle.block_end.proofs.fill_ahead.Statement.{statement}
+use Rattle.block_end.proofs.fill_ahead.Tie as tie
 
 abbrev Inv-loop : tie.InvT-loop
 Inv-loop seven line i₀ i = Scanned (isFill seven) line i

@@ -1,7 +1,7 @@
--- `text_signs` meets its contract. Assumes nothing.
+-- `cut` meets its contract. Assumes nothing.
 use borrow.Author.Needs.{needs}
-use Rattle.block_fields.proofs.text_signs.Statement.{statement}
-use Rattle.block_fields.proofs.text_signs.Tie as tie
+use Rattle.block_end.proofs.cut.Statement.{statement}
+use Rattle.block_end.proofs.cut.Tie as tie
 
 enum-told : tie.Need-enum-told
 enum-told c = search needs
@@ -45,8 +45,8 @@ returns-6 c = rw (c .enum-told6 .given .1)
 returns-7 : tie.Need-returns-7
 returns-7 c = rw (c .enum-told7 .given .1)
 
-pub text-signs-spec : {M : Type 1} → statement M
-text-signs-spec =
+pub cut-spec : {M : Type 1} → statement M
+cut-spec =
     tie.close
     (tie.spec
     enum-told
