@@ -39,7 +39,7 @@ hand-out-requires : tie.Need-hand-out-requires
 hand-out-requires c κs =
     let s = c .before .before .before .before .before .before .before .before in
     let a = s .args in
-    (ordered (a .method) (a .parity) (a .line .now) (a .f) (s .pre), (counts-kept (a .method) (a .parity) (a .line .now) (a .f) (s .pre) (c .before .is-seven .ensures), omega (arith, c .before .before .if2 .left)))
+    (ordered (a .method) (a .parity) (a .line .now) (a .f) (s .pre), counts-kept (a .method) (a .parity) (a .line .now) (a .f) (s .pre) (c .before .is-seven .ensures))
 
 held-requires : tie.Need-held-requires
 held-requires c κs = search needs
