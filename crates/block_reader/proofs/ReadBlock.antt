@@ -31,7 +31,7 @@ use Rattle.block.proofs.Passed.{Passed, passed}
 use Rattle.block_framing.specs.declared.Segments.{Segments}
 use Rattle.block_framing.specs.declared.WalkEnd.{WalkEnd}
 use Rattle.block_framing.specs.declared.WalkEnd.the-variants as code
-use Rattle.block_framing.specs.Framings.{noTally, tallied, startOf, framingAt, framed, refusal, ofWalk, framedAnswer, headerIn, textIn, countedIn, Ordered, Segmented}
+use Rattle.block_framing.specs.Framings.{noTally, tallied, startOf, framingAt, WalkAnswer, framed, refusal, ofWalk, framedAnswer, headerIn, textIn, countedIn, Ordered, Segmented}
 use Rattle.block_framing.proofs.FramingLaws.{segmented, Tallied, tally-counts, framing-shape}
 use Rattle.block_framing.proofs.Reading.{Carries, framing-carries}
 use Rattle.block_reader.specs.Counts.{CountsKept, heldBy}
@@ -114,8 +114,8 @@ module _ (m : Method) (p : Parity) (line : List ℕ) (r : Segments) (q : framed 
   needed : r .header + r .text ≡ outputLength parts
   needed = ap₂ (λ i j. i + j) header-length text-length
 
-  pub counts-kept : CountsKept (isSeven m) r line
-  counts-kept = record { header = carried .headers ∙ tally .headers ∙ ap length (finds .headers); text = carried .texts ∙ tally .texts ∙ ap length (finds .texts) }
+  pub counts-kept : {seven : Bool} → seven ≡ isSeven m → CountsKept seven r line
+  counts-kept e = subst (λ (s : Bool). CountsKept s r line) (sym e) record { header = carried .headers ∙ tally .headers ∙ ap length (finds .headers); text = carried .texts ∙ tally .texts ∙ ap length (finds .texts) }
 
   -- ---- what a taken block answers and puts out
 
@@ -165,13 +165,17 @@ module _ (m : Method) (p : Parity) (line : List ℕ) (r : Segments) (q : framed 
           (right-check ∙ ap (λ t. cond t (taken parts) (rule.refusal 19 (outputLength parts))) (lt-leb (outputLength parts) (length out) (omega (arith, needed)))
           ∙ ap (rule.refusal 19) (sym needed))
 
-      pub is-taken : r .header + r .text ≤ length out → {numbers : Numbers} {after : List ℕ} → numbers ≡ heldBy r → after ≡ sets out 0 (map (character (isSeven m)) (headerIn (isSeven m) r line ++ textIn (isSeven m) r line))
+      pub is-taken : r .header + r .text ≤ length out → {seven : Bool} {numbers : Numbers} {after : List ℕ} → seven ≡ isSeven m → numbers ≡ heldBy r
+          → after ≡ sets out 0 (map (character seven) (headerIn seven r line ++ textIn seven r line))
           → called numbers after ≡ readCall m p line out
-      is-taken h n s =
-          ap₂ called (n ∙ taken-numbers) (taken-output out h s)
+      is-taken h i n s =
+          ap₂ called (n ∙ taken-numbers) (taken-output out h (s ∙ ap (λ b. sets out 0 (map (character b) (headerIn b r line ++ textIn b r line))) i))
           ∙ sym (ap (λ z. afterReading z out) (right-check ∙ ap (λ t. cond t (taken parts) (rule.refusal 19 (outputLength parts))) (le-leb (outputLength parts) (length out) (omega (arith, needed)))))
 
--- ---- no framing
+-- ---- what the walk answers
+
+pub walk-found : {w : WalkEnd} {r : Segments} {answer : WalkAnswer} → ofWalk w ≡ answer → w ≡ code.Found r → framed r ≡ answer
+walk-found e q = sym (ap ofWalk q) ∙ e
 
 pub no-framing : (m : Method) (p : Parity) (line out : List ℕ) {w : WalkEnd} {r : ReadRefusal} → ofWalk w ≡ framedAnswer (isSeven m) line (rule.framed m p line) → w ≡ code.Refused r
     → called (refused (readNumber r) (readValue r)) out ≡ readCall m p line out

@@ -10,10 +10,9 @@ use block::is_seven;
 use block_framing::Segments;
 use block_framing::WalkEnd;
 use block_framing::find_framing;
-use block_segments::copy_segment;
+use block_segments::copy_both;
 ghost use mathlib.Core.Path.{_≡_};
 ghost use mathlib.Core.List.{_++_, map};
-ghost use Prim.Native.Nat.{_+_, _≤_};
 ghost use lib.ListN.{length};
 ghost use lib.Seq.{sets};
 ghost use Rattle.bits.specs.Calls.{called};
@@ -42,7 +41,6 @@ fn held(f: Segments) -> Block
 fn hand_out(seven: bool, f: Segments, line: &[u8], out: &mut [u8])
     requires { ⌜ Ordered f (length (now line)) ⌝ }
     requires { ⌜ CountsKept seven f (now line) ⌝ }
-    requires { ⌜ f .header + f .text ≤ length (now out) ⌝ }
     ensures { λ _. ⌜ now (out .exit) ≡ sets (now (out .entry)) 0 (map (character seven) (headerIn seven f (now (line .entry)) ++ textIn seven f (now (line .entry)))) ⌝ }
 {
     let head = f.head;
@@ -50,14 +48,14 @@ fn hand_out(seven: bool, f: Segments, line: &[u8], out: &mut [u8])
     let body = f.body;
     let tail = f.tail;
     let shape = f.shape;
-    let n = f.header;
-    copy_segment(seven, false, n, &line[head..inner], &mut *out);
-    copy_segment(
+    copy_both(
         seven,
+        f.header,
+        &line[head..inner],
         is_clear(shape),
         f.text,
         &line[body..tail],
-        &mut out[n..],
+        &mut *out,
     );
 }
 

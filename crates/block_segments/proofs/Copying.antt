@@ -1,17 +1,17 @@
 -- Loops that store the characters of a segment: what is left, laid over the output, gives the whole. Assumes nothing.
 use mathlib.Core.Path.{_≡_, refl, sym, ap, ap₂, _∙_}
-use Prim.Native.Nat.{ℕ, zero, suc, _+_, _≤_, _<_}
+use Prim.Native.Nat.{ℕ, zero, suc, _+_, _-_, _≤_, _<_}
 use native.Mathlib.Numerals.{add-one}
 use native.Mathlib.Omega.{arith}
 use mathlib.Core.Bool.{Bool, true, false}
-use mathlib.Core.List.{List, [], _∷_, _++_, map}
+use mathlib.Core.List.{List, [], _∷_, _++_, map, append-nil}
 use borrow.Author.Tests.{leb-true, leb-false}
 use lib.Dec.{leb}
-use lib.ListN.{length, length-set, set, getD, drop, drop-of-length-le, length-append, length-map}
-use lib.Seq.{drop-cons, sets}
+use lib.ListN.{length, length-set, length-drop, set, getD, take, drop, drop-of-length-le, length-append, length-map}
+use lib.Seq.{drop-cons, sets, take-all}
 use Rattle.bits.specs.Differences.{consIf}
 use Rattle.block.specs.Characters.{character}
-use Rattle.block.proofs.Lists.{sets-append}
+use Rattle.block.proofs.Lists.{sets-append, map-append}
 use Rattle.block_framing.specs.Framings.{isKept, nextBehind, keptBytes}
 use Rattle.block_segments.proofs.KeptLaws.{kept-next, kept-none}
 
@@ -103,3 +103,33 @@ module _ {seven : Bool} {part out₀ out : List ℕ} {size i : ℕ} (w : Copying
       go : (t : Bool) → leb (length part) size ≡ t → out ≡ sets out₀ 0 (map (character seven) part)
       go true e = sym (ap (λ l. sets out i (map (character seven) l)) (drop-of-length-le part {i = i} (omega (arith, leb-true (length part) size e)))) ∙ w .rest
       go false e = sym (sets-past (map (character seven) (drop i part)) out i (omega (arith, w .kept, full (leb-false (length part) size e)))) ∙ w .rest
+
+-- ---- two segments one behind the other
+
+sets-cons : (vs : List ℕ) (x : ℕ) (xs : List ℕ) (n : ℕ) → sets (x ∷ xs) (suc n) vs ≡ x ∷ sets xs n vs
+sets-cons [] x xs n = refl
+sets-cons (v ∷ vs) x xs n = sets-cons vs x (set xs n v) (suc n)
+
+sets-at : (vs out : List ℕ) (n : ℕ) → n ≤ length out → take n out ++ sets (drop n out) 0 vs ≡ sets out n vs
+sets-at vs out zero h = refl
+sets-at vs [] (suc n) h = absurd (omega (arith, h))
+sets-at vs (x ∷ xs) (suc n) h = ap (λ l. x ∷ l) (sets-at vs xs n (omega (arith, h))) ∙ sym (sets-cons vs x xs n)
+
+module _ (g : ℕ → ℕ) (out xs ys : List ℕ) {n : ℕ} {out₁ : List ℕ} (e : n ≡ length xs) (s : out₁ ≡ sets out 0 (map g xs)) where
+  then-at : sets out₁ n (map g ys) ≡ sets out 0 (map g (xs ++ ys))
+  then-at =
+      let k : n ≡ 0 + length (map g xs) = omega (arith, e, length-map xs g) in
+      ap₂ (λ l i. sets l i (map g ys)) s k ∙ sym (sets-append (map g xs) (map g ys) out 0) ∙ sym (ap (sets out 0) (map-append g xs ys))
+
+  -- the second is stored into the part behind the first
+  pub both-stored : n < length out₁ → {part : List ℕ} → part ≡ sets (take (length out₁ - n) (drop n out₁)) 0 (map g ys)
+      → take n out₁ ++ (part ++ drop (length out₁ - n) (drop n out₁)) ≡ sets out 0 (map g (xs ++ ys))
+  both-stored h {part} t =
+      let some : length (drop n out₁) ≤ length out₁ - n = omega (arith, length-drop n out₁) in
+      ap₂ (λ x y. take n out₁ ++ (x ++ y)) (t ∙ ap (λ l. sets l 0 (map g ys)) (take-all (length out₁ - n) (drop n out₁) some)) (drop-of-length-le (drop n out₁) some)
+      ∙ ap (λ x. take n out₁ ++ x) (append-nil (sets (drop n out₁) 0 (map g ys)))
+      ∙ sets-at (map g ys) out₁ n (omega (arith, h)) ∙ then-at
+
+  -- there is no place for the second
+  pub first-fills : length out₁ ≤ n → out₁ ≡ sets out 0 (map g (xs ++ ys))
+  first-fills h = sym (sets-past (map g ys) out₁ n h) ∙ then-at

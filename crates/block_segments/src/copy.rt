@@ -4,7 +4,7 @@ use crate::kept::next_behind;
 use block::character;
 ghost use mathlib.Core.Path.{_≡_};
 ghost use mathlib.Core.Bool.{false};
-ghost use mathlib.Core.List.{[], map};
+ghost use mathlib.Core.List.{[], _++_, map};
 ghost use Prim.Native.Nat.{_+_, _<_, _≤_};
 ghost use lib.ListN.{length};
 ghost use lib.Seq.{sets};
@@ -70,13 +70,31 @@ fn copy_whole(seven: bool, part: &[u8], out: &mut [u8])
     }
 }
 
-// The characters of a segment that is said to keep `kept` bytes.
-pub fn copy_segment(seven: bool, clear: bool, kept: usize, part: &[u8], out: &mut [u8])
-    ensures { λ _. ⌜ now (out .exit) ≡ sets (now (out .entry)) 0 (map (rule.character seven) (segmentBytes clear seven kept (now (part .entry)))) ⌝ }
+// The characters of a segment that is said to keep `kept` bytes; answers how many they are.
+fn copy_segment(seven: bool, clear: bool, kept: usize, part: &[u8], out: &mut [u8]) -> usize
+    ensures { λ r. ⌜ (r ≡ length (segmentBytes clear seven kept (now (part .entry)))) × (now (out .exit) ≡ sets (now (out .entry)) 0 (map (rule.character seven) (segmentBytes clear seven kept (now (part .entry))))) ⌝ }
 {
     if kept == part.len() {
         copy_whole(seven, part, &mut *out);
-        return;
+        return kept;
     }
-    copy_kept(seven, clear, part, &mut *out);
+    copy_kept(seven, clear, part, &mut *out)
+}
+
+// The characters of a header and, behind them, those of a text.
+pub fn copy_both(
+    seven: bool,
+    header_kept: usize,
+    header: &[u8],
+    clear: bool,
+    text_kept: usize,
+    text: &[u8],
+    out: &mut [u8],
+)
+    ensures { λ _. ⌜ now (out .exit) ≡ sets (now (out .entry)) 0 (map (rule.character seven) (segmentBytes false seven «header_kept» (now (header .entry)) ++ segmentBytes clear seven «text_kept» (now (text .entry)))) ⌝ }
+{
+    let n = copy_segment(seven, false, header_kept, header, &mut *out);
+    if n < out.len() {
+        copy_segment(seven, clear, text_kept, text, &mut out[n..]);
+    }
 }

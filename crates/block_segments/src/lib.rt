@@ -4,8 +4,8 @@ mod copy;
 mod kept;
 mod sum;
 
+pub use copy::copy_both;
 pub use copy::copy_kept;
-pub use copy::copy_segment;
 pub use kept::is_kept;
 pub use kept::next_behind;
 pub use sum::sum_kept;

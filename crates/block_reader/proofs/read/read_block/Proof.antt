@@ -1,7 +1,5 @@
 -- `read_block` meets its contract: a refusal of the walk, or a framing that is read on. Assumes nothing.
-use mathlib.Core.Path.{sym, ap, _∙_}
-use Rattle.block_framing.specs.Framings.{ofWalk}
-use Rattle.block_reader.proofs.ReadBlock.{no-framing}
+use Rattle.block_reader.proofs.ReadBlock.{walk-found, no-framing}
 use borrow.Author.Needs.{needs}
 use Rattle.block_reader.proofs.read.read_block.Statement.{statement}
 use Rattle.block_reader.proofs.read.read_block.Tie as tie
@@ -16,7 +14,7 @@ enum-known-f : tie.Need-enum-known-f
 enum-known-f c = search needs
 
 read-framed-requires : tie.Need-read-framed-requires
-read-framed-requires c κs = sym (ap ofWalk (c .before .before .f .given .1)) ∙ c .before .before .before .before .find-framing .ensures
+read-framed-requires c κs = walk-found (c .before .before .before .before .find-framing .ensures) (c .before .before .f .given .1)
 
 returns : tie.Need-returns
 returns c =
@@ -27,7 +25,7 @@ same-length : tie.Need-same-length
 same-length c = search needs
 
 returns-2 : tie.Need-returns-2
-returns-2 c = search needs
+returns-2 c = c .before .before .read-framed .ensures
 
 pub read-block-spec : {M : Type 1} → statement M
 read-block-spec =

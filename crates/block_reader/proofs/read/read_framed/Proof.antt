@@ -1,4 +1,5 @@
 -- `read_framed` meets its contract: questions 18 and 19, then header and text handed out. Assumes nothing.
+use mathlib.Core.Path.{refl}
 use native.Mathlib.Omega.{arith}
 use borrow.Author.Tests.{not-true, not-false}
 use Rattle.block_reader.proofs.ReadBlock.{ordered, lengths-small, counts-kept, wrong-check, output-short, is-taken}
@@ -10,7 +11,7 @@ check-right-requires : tie.Need-check-right-requires
 check-right-requires c κs =
     let s = c .before .before in
     let a = s .args in
-    (ordered (a .method) (a .parity) (a .line .now) (a .f) (s .pre), counts-kept (a .method) (a .parity) (a .line .now) (a .f) (s .pre))
+    (ordered (a .method) (a .parity) (a .line .now) (a .f) (s .pre), counts-kept (a .method) (a .parity) (a .line .now) (a .f) (s .pre) refl)
 
 returns : tie.Need-returns
 returns c =
@@ -38,7 +39,7 @@ hand-out-requires : tie.Need-hand-out-requires
 hand-out-requires c κs =
     let s = c .before .before .before .before .before .before .before .before in
     let a = s .args in
-    (ordered (a .method) (a .parity) (a .line .now) (a .f) (s .pre), (rw (c .before .is-seven .ensures) (counts-kept (a .method) (a .parity) (a .line .now) (a .f) (s .pre)), omega (arith, c .before .before .if2 .left)))
+    (ordered (a .method) (a .parity) (a .line .now) (a .f) (s .pre), counts-kept (a .method) (a .parity) (a .line .now) (a .f) (s .pre) (c .before .is-seven .ensures))
 
 held-requires : tie.Need-held-requires
 held-requires c κs = search needs
@@ -50,7 +51,7 @@ returns-3 : tie.Need-returns-3
 returns-3 c =
     let s = c .before .before .before .before .before .before .before .before .before .before .before .before in
     let a = s .args in
-    is-taken (a .method) (a .parity) (a .line .now) (a .f) (s .pre) (a .out .now) (c .before .before .before .before .before .before .before .before .before .check-right .ensures) (not-false _ (c .before .before .before .before .before .before .before .before .if1 .left)) (c .before .before .before .before .before .before .if2 .left) (c .held .ensures) (rw (c .before .before .before .before .before .is-seven .ensures) at (c .before .before .before .hand-out .ensures))
+    is-taken (a .method) (a .parity) (a .line .now) (a .f) (s .pre) (a .out .now) (c .before .before .before .before .before .before .before .before .before .check-right .ensures) (not-false _ (c .before .before .before .before .before .before .before .before .if1 .left)) (c .before .before .before .before .before .before .if2 .left) (c .before .before .before .before .before .is-seven .ensures) (c .held .ensures) (c .before .before .before .hand-out .ensures)
 
 pub read-framed-spec : {M : Type 1} → statement M
 read-framed-spec =

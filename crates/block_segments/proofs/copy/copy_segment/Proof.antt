@@ -11,7 +11,7 @@ same-length : tie.Need-same-length
 same-length c = search needs
 
 returns : tie.Need-returns
-returns c = rw (eq-eqb _ _ (c .before .before .before .before .if1 .taken)) (c .before .before .copy-whole .ensures)
+returns c = rw (eq-eqb _ _ (c .before .before .before .before .if1 .taken)) (c .before .before .before .before .if1 .taken, c .before .before .copy-whole .ensures)
 
 copy-kept-requires : tie.Need-copy-kept-requires
 copy-kept-requires c κs = search needs
@@ -20,7 +20,7 @@ same-length-2 : tie.Need-same-length-2
 same-length-2 c = search needs
 
 returns-2 : tie.Need-returns-2
-returns-2 c = rw (ne-eqb _ _ (c .before .before .before .before .if1 .left)) (c .before .before .copy-kept .ensures .1)
+returns-2 c = rw (ne-eqb _ _ (c .before .before .before .before .if1 .left)) (c .before .before .copy-kept .ensures)
 
 pub copy-segment-spec : {M : Type 1} → statement M
 copy-segment-spec =
