@@ -1,4 +1,3 @@
-pub mod Places
 pub mod Removal
 pub mod Resting
 pub mod Passing

@@ -1,7 +1,7 @@
 // The bits of the line behind its whole bytes, one by one.
 use crate::Rest;
-use crate::flag::bit_at;
 use frame::BitPlace;
+use line_bits::bit_at;
 use zero_removal::LineReader;
 ghost use mathlib.Core.Path.{_≡_};
 ghost use Prim.Native.Nat.{_+_, _*_, _<_, _≤_};

@@ -23,7 +23,6 @@ pub(crate) enum Rest {
 }
 
 mod bitwise;
-mod flag;
 mod pass;
 mod questions;
 

@@ -1,11 +1,11 @@
 // Questions 31 to 33.
 use crate::WalkEnd;
-use crate::flag::is_flag;
 use crate::pass::pass;
 use cyclic5::Cyclic5;
 use cyclic6::Cyclic6;
 use frame::FrameMethod;
 use frame::ReadRefusal;
+use line_bits::is_flag;
 use tables::ccitt16;
 use tables::ieee32;
 ghost use mathlib.Core.Path.{_≡_};

@@ -2,11 +2,11 @@
 use mathlib.Core.Path.{_≡_, refl, sym, ap, ap₂, _∙_}
 use mathlib.Core.Bool.{Bool, true, false, cond}
 use mathlib.Core.List.{List, [], _∷_, _++_, append-assoc}
-use Prim.Native.Nat.{ℕ, zero, suc, _+_, _*_, _-_, _<_, _≤_}
+use Prim.Native.Nat.{ℕ, _+_, _*_, _-_, _<_, _≤_}
 use native.Mathlib.Omega.{arith}
 use lib.Dec.{eqb, lit<}
-use lib.ListN.{length, take, drop, getD, length-append, drop-of-length-le}
-use lib.Seq.{slice, length-slice, take-add, take-at, drop-at, drop-drop}
+use lib.ListN.{length, take, drop, getD, length-append}
+use lib.Seq.{slice, length-slice, take-add, take-at, drop-at}
 use Rattle.bits.specs.Bytes.{lowBits, bitsOf}
 use Rattle.bits.proofs.Bytes.{length-lowBits, length-bitsOf}
 use Rattle.zero_removal.specs.declared.LineReader.{LineReader}
@@ -15,7 +15,7 @@ use Rattle.frame.specs.Stuffing.{Unstuffed, clean, missing, unstuffBit, onesAft
 use Rattle.bits.proofs.WholeBytes.{drop-take}
 use Rattle.zero_removal.specs.Removal.{onesThrough, onesBefore, unstuffPart, inFront}
 use Rattle.zero_removal.specs.Reader.{dataOf, ReaderFits, pendingBits, wholeBits, partOf, ReadsByte, leftAt}
-use Rattle.frame.proofs.Words.{bitsOf-on}
+use Rattle.frame.proofs.Words.{bitsOf-on, bitsOf-drop}
 
 -- ---- bits in front
 
@@ -81,16 +81,6 @@ front-before k d (missing p) u = refl
 
 -- ---- a byte of the line
 
-drop-bits : (i : ℕ) (bs : List ℕ) → drop (8 * i) (bitsOf bs) ≡ bitsOf (drop i bs)
-unfolding bitsOf
-drop-bits zero bs = refl
-drop-bits (suc i) [] = let h : 0 ≤ 8 * suc i = omega arith in drop-of-length-le [] h
-drop-bits (suc i) (b ∷ bs) =
-    let e : 8 * suc i ≡ 8 + 8 * i = omega arith in
-    ap (λ n. drop n (lowBits 8 b ++ bitsOf bs)) e
-    ∙ sym (drop-drop (8 * i) 8 (lowBits 8 b ++ bitsOf bs))
-    ∙ ap (drop (8 * i)) (drop-at (lowBits 8 b) (bitsOf bs) 8 (length-lowBits 8 b)) ∙ drop-bits i bs
-
 module _ (lent : List ℕ) (end : ℕ) (fits : end ≤ 8 * length lent) where
   abbrev bits : List Bool
   bits = bitsOf lent
@@ -99,7 +89,7 @@ module _ (lent : List ℕ) (end : ℕ) (fits : end ≤ 8 * length lent) where
   slice-rest i h =
       let e : end ≡ 8 * i + (end - 8 * i) = omega arith in
       ap (λ k. drop (8 * i) (take k bits)) e
-      ∙ drop-take (8 * i) (end - 8 * i) bits (omega (arith, length-bitsOf lent)) ∙ ap (take (end - 8 * i)) (drop-bits i lent)
+      ∙ drop-take (8 * i) (end - 8 * i) bits (omega (arith, length-bitsOf lent)) ∙ ap (take (end - 8 * i)) (bitsOf-drop i lent)
 
   slice-byte : (i : ℕ) → 8 * (i + 1) ≤ end → slice (8 * i) end bits ≡ lowBits 8 (getD lent i 0) ++ slice (8 * (i + 1)) end bits
   slice-byte i h =
