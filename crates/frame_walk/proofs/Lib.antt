@@ -1,5 +1,4 @@
-pub mod Removal
-pub mod Resting
+pub mod Marked
 pub mod Passing
 pub mod Register
 pub mod Flags

@@ -1,14 +1,14 @@
 -- One pass with the check: what is left to pass gives the whole. Assumes nothing.
 use mathlib.Core.Path.{_≡_, refl, sym, ap, ap₂, _∙_}
-use mathlib.Core.Bool.{true, false}
+use mathlib.Core.Bool.{Bool, true, false}
 use mathlib.Core.List.{List, _++_}
-use Prim.Native.Nat.{ℕ, suc, _+_, _*_, _-_, _/_, _%_, _^_, _<_, _≤_}
+use Prim.Native.Nat.{ℕ, suc, _+_, _*_, _/_, _<_, _≤_}
 use native.Mathlib.Nat.{mod-eq-of-lt}
 use native.Mathlib.Omega.{arith}
 use lib.ListN.{length, take, getD, length-append}
 use lib.Seq.{slice, take-at, drop-at}
 use Rattle.bits.specs.Bytes.{lowBits, bitsOf, value, packInto}
-use Rattle.bits.proofs.Bytes.{length-lowBits, lowBits-append, value-lowBits}
+use Rattle.bits.proofs.Bytes.{length-lowBits, value-lowBits}
 use Rattle.bits.proofs.WholeBytes.{packInto-none}
 use Rattle.registers.specs.Register.{enterByTable, enterAllByTable}
 use Rattle.frame.specs.Stuffing.{Unstuffed, clean, missing, unstuff}
@@ -52,8 +52,11 @@ pass-begin table start lent end h =
       counted = omega arith;
     }
 
-module _ {table : List ℕ} {start : ℕ} {lent : List ℕ} {end register count index : ℕ} {r : LineReader} (fit : end ≤ 8 * length lent)
+module _ {table : List ℕ} {start : ℕ} {lent : List ℕ} {end register count index : ℕ} {r : LineReader} (wide : end + 8 ≤ 8 * length lent)
     (j : Passing table start lent end register count index r) (h : 8 * (index + 1) ≤ end) {x : ByteRead} (reads : ReaderFits r → ReadsByte r (getD lent index 0) x) where
+  fit : end ≤ 8 * length lent
+  fit = omega arith
+
   e : ReadsByte r (getD lent index 0) x
   e = reads (j .fits)
 
@@ -95,33 +98,28 @@ module _ {table : List ℕ} {start : ℕ} {lent : List ℕ} {end register count 
 -- ---- the bits behind them
 
 pub pass-end : {table : List ℕ} {start : ℕ} {lent : List ℕ} {end register count index : ℕ} {r : LineReader} → Passing table start lent end register count index r
-    → {u : Unstuffed} → u ≡ leftAt (bitsOf lent) end index r → passed table end register count u ≡ passed table end start 0 (unstuff 0 8 (slice 8 end (bitsOf lent)))
-pass-end {table} {end = end} {register = register} {count = count} j e = ap (passed table end register count) e ∙ j .left
+    → index ≡ end / 8 → passed table end register count (leftAt (bitsOf lent) end (end / 8) r) ≡ passed table end start 0 (unstuff 0 8 (slice 8 end (bitsOf lent)))
+pass-end {table} {lent = lent} {end = end} {register = register} {count = count} {r = r} j e =
+    ap (λ i. passed table end register count (leftAt (bitsOf lent) end i r)) (sym e) ∙ j .left
 
 module _ (table : List ℕ) (end register count : ℕ) where
-  pub last-missing : (p : ℕ) → refused 33 p ≡ passed table end register count (missing p)
+  pub last-missing : {u : Unstuffed} (p : ℕ) → u ≡ missing p → refused 33 p ≡ passed table end register count u
   unfolding passed
-  last-missing p = refl
+  last-missing p e = ap (passed table end register count) (sym e)
 
-  module _ (held pending : ℕ) where
-    pub last-part : pending < 8 → closed end (count + pending) register ≡ passed table end register count (clean (lowBits pending held))
+  module _ {u : Unstuffed} (s : List Bool) (e : u ≡ clean s) {n : ℕ} (counted : n ≡ length s) where
+    pub last-part : n < 8 → closed end (count + n) register ≡ passed table end register count u
     unfolding passed enterAllByTable
     last-part l =
-        let s = lowBits pending held in
-        let n : count + pending ≡ count + length s = omega (arith, length-lowBits pending held) in
-        let z : length s / 8 ≤ 0 = omega (arith, length-lowBits pending held) in
-        ap₂ (closed end) n (sym (ap (enterAllByTable table register) (packInto-none (length s / 8) s z)))
+        let z : length s / 8 ≤ 0 = omega arith in
+        ap₂ (closed end) (ap (λ k. count + k) counted) (sym (ap (enterAllByTable table register) (packInto-none (length s / 8) s z)))
+        ∙ ap (passed table end register count) (sym e)
 
-    pub last-byte : 8 ≤ pending → pending < 15 → {next : ℕ} → next ≡ enterByTable table register (held % 256)
-        → closed end (count + pending) next ≡ passed table end register count (clean (lowBits pending held))
+    pub last-byte : 8 ≤ n → n < 16 → {b next : ℕ} → value (take 8 s) ≡ b → next ≡ enterByTable table register b
+        → closed end (count + n) next ≡ passed table end register count u
     unfolding passed enterAllByTable packInto
-    last-byte g l {next} en =
-        let s = lowBits pending held in
-        let n : count + pending ≡ count + length s = omega (arith, length-lowBits pending held) in
-        let q : length s / 8 ≡ 1 = omega (arith, length-lowBits pending held) in
-        let k : 8 + (pending - 8) ≡ pending = omega arith in
-        let t : take 8 s ≡ lowBits 8 held =
-        ap (λ p. take 8 (lowBits p held)) (sym k) ∙ ap (take 8) (lowBits-append 8 (pending - 8) held)
-        ∙ take-at (lowBits 8 held) (lowBits (pending - 8) (held / 2 ^ 8)) 8 (length-lowBits 8 held) in
-        let v : value (take 8 s) ≡ held % 256 = ap value t ∙ value-lowBits 8 held in
-        ap₂ (closed end) n (en ∙ sym (ap (λ x. enterAllByTable table register (packInto x s)) q ∙ ap (enterByTable table register) v))
+    last-byte g l v en =
+        let q : length s / 8 ≡ 1 = omega arith in
+        ap₂ (closed end) (ap (λ k. count + k) counted)
+        (en ∙ sym (ap (λ x. enterAllByTable table register (packInto x s)) q ∙ ap (enterByTable table register) v))
+        ∙ ap (passed table end register count) (sym e)

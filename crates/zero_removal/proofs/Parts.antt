@@ -52,30 +52,28 @@ unstuff-parts run p (b ∷ s) t =
 
 -- ---- the same part from another place on
 
-moved : ℕ → Unstuffed → Unstuffed
+abbrev pub moved : ℕ → Unstuffed → Unstuffed
 moved k (clean s) = clean s
 moved k (missing p) = missing (k + p)
 
 moved-bit : (k : ℕ) (t b : Bool) (p : ℕ) (v : Unstuffed) → moved k (unstuffBit t b p v) ≡ unstuffBit t b (k + p) (moved k v)
-unfolding moved
 moved-bit k true true p v = refl
 moved-bit k true false p v = refl
 moved-bit k false b p (clean s) = refl
 moved-bit k false b p (missing q) = refl
 
 part-moved : (k run p : ℕ) (s : List Bool) → unstuffPart run (k + p) s ≡ moved k (unstuffPart run p s)
-unfolding moved unstuffPart
+unfolding unstuffPart
 part-moved k run p [] = refl
 part-moved k run p (b ∷ s) =
     let e : k + p + 1 ≡ k + (p + 1) = omega arith in
     ap (unstuffBit (eqb run 5) b (k + p)) (ap (λ n. unstuffPart (onesAfter run b) n s) e ∙ part-moved k (onesAfter run b) (p + 1) s)
     ∙ sym (moved-bit k (eqb run 5) b p (unstuffPart (onesAfter run b) (p + 1) s))
 
-part-at : (run p : ℕ) (s : List Bool) → unstuffPart run p s ≡ moved p (unstuffPart run 0 s)
+pub part-at : (run p : ℕ) (s : List Bool) → unstuffPart run p s ≡ moved p (unstuffPart run 0 s)
 part-at run p s = let e : p ≡ p + 0 = omega arith in ap (λ n. unstuffPart run n s) e ∙ part-moved p run 0 s
 
 front-before : (k : ℕ) (d : List Bool) (v u : Unstuffed) → inFront d (before (moved k v) u) ≡ before (moved k (inFront d v)) u
-unfolding moved
 front-before k d (clean s) u = inFront-append d s u
 front-before k d (missing p) u = refl
 
@@ -85,7 +83,7 @@ module _ (lent : List ℕ) (end : ℕ) (fits : end ≤ 8 * length lent) where
   abbrev bits : List Bool
   bits = bitsOf lent
 
-  slice-rest : (i : ℕ) → 8 * i ≤ end → slice (8 * i) end bits ≡ take (end - 8 * i) (bitsOf (drop i lent))
+  pub slice-rest : (i : ℕ) → 8 * i ≤ end → slice (8 * i) end bits ≡ take (end - 8 * i) (bitsOf (drop i lent))
   slice-rest i h =
       let e : end ≡ 8 * i + (end - 8 * i) = omega arith in
       ap (λ k. drop (8 * i) (take k bits)) e
@@ -123,12 +121,10 @@ module _ (lent : List ℕ) (end : ℕ) (fits : end ≤ 8 * length lent) where
 
     -- a zero that is missing
     pub byte-missing : x .missing < 8 → leftAt bits end i r ≡ missing (8 * i + x .missing)
-    unfolding moved
     byte-missing m = in-parts ∙ ap (λ v. before (moved (8 * i) v) rest) (e .unsound m)
 
     -- else the bits that the byte gives
     pub byte-turn : x .missing ≡ 8 → leftAt bits end i r ≡ inFront (wholeBits (x .whole) (x .byte)) (leftAt bits end (i + 1) (x .next))
-    unfolding moved
     byte-turn m =
         let n : 8 * i + length (lowBits 8 byte) ≡ 8 * (i + 1) = omega (arith, length-lowBits 8 byte) in
         let next : rest ≡ unstuff (onesBefore (x .next .before)) (8 * (i + 1)) (slice (8 * (i + 1)) end bits) =

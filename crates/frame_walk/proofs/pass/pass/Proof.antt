@@ -106,18 +106,16 @@ loop-again-2 c =
     let l = c .before .before .before .before .before .loop-test .taken in
     pass-part (s .pre .1) (v .inv) (omega (arith, l)) (c .before .before .before .read-byte .ensures) (c .before .before .if1 .left) (c .before .if2 .left)
 
-read-rest-requires : tie.Need-read-rest-requires Inv-loop μ-loop
-read-rest-requires c κs =
-    let v = c .before .loop in
-    (v .inv .fits, v .inv .within, omega (arith, c .loop-test .left), c .before .before .before .pre .1)
-
 last-requires : tie.Need-last-requires Inv-loop μ-loop
 last-requires c κs =
-    let v = c .before .before .loop in
-    (c .read-rest .ensures .1, omega (arith, c .before .before .before .before .pre .2, v .inv .counted, v .inv .within))
+    let v = c .before .loop in
+    let s = c .before .before .before in
+    (v .inv .fits, s .pre .1, s .pre .2, omega (arith, v .inv .counted, v .inv .within))
 
 returns-2 : tie.Need-returns-2 Inv-loop μ-loop
-returns-2 c = c .last .ensures ∙ pass-end (c .before .before .before .loop .inv) (c .before .read-rest .ensures .0)
+returns-2 c =
+    let v = c .before .before .loop .inv in
+    c .last .ensures ∙ pass-end v (omega (arith, c .before .loop-test .left, v .within))
 
 pub pass-spec : {M : Type 1} → statement M
 pass-spec =
@@ -140,6 +138,5 @@ pass-spec =
     add-index-2
     loop-less-2
     loop-again-2
-    read-rest-requires
     last-requires
     returns-2)
