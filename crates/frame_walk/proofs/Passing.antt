@@ -1,22 +1,25 @@
 -- One pass with the check: what is left to pass gives the whole. Assumes nothing.
 use mathlib.Core.Path.{_≡_, refl, sym, ap, ap₂, _∙_}
 use mathlib.Core.Bool.{Bool, true, false}
-use mathlib.Core.List.{List, _++_}
-use Prim.Native.Nat.{ℕ, suc, _+_, _*_, _/_, _<_, _≤_}
+use mathlib.Core.List.{List, _++_, append-assoc}
+use Prim.Native.Nat.{ℕ, suc, _+_, _*_, _-_, _/_, _%_, _^_, _<_, _≤_}
 use native.Mathlib.Nat.{mod-eq-of-lt}
 use native.Mathlib.Omega.{arith}
-use lib.ListN.{length, take, getD, length-append}
+use lib.ListN.{length, take, drop, getD, length-append}
 use lib.Seq.{slice, take-at, drop-at}
 use Rattle.bits.specs.Bytes.{lowBits, bitsOf, value, packInto}
-use Rattle.bits.proofs.Bytes.{length-lowBits, value-lowBits}
+use Rattle.bits.proofs.Bytes.{length-lowBits, lowBits-append, value-lowBits}
 use Rattle.bits.proofs.WholeBytes.{packInto-none}
 use Rattle.registers.specs.Register.{enterByTable, enterAllByTable}
 use Rattle.frame.specs.Stuffing.{Unstuffed, clean, missing, unstuff}
 use Rattle.zero_removal.specs.declared.LineReader.{LineReader}
 use Rattle.zero_removal.specs.declared.ByteRead.{ByteRead}
-use Rattle.zero_removal.specs.Removal.{inFront}
-use Rattle.zero_removal.specs.Reader.{ReaderFits, wholeBits, ReadsByte, leftAt}
-use Rattle.zero_removal.proofs.Parts.{inFront-none, byte-missing, byte-turn, firstReader, first-fits, first-left}
+use Rattle.frame.proofs.Words.{bitsOf-on}
+use Rattle.zero_removal.specs.Removal.{onesBefore, inFront}
+use Rattle.zero_removal.specs.Reader.{ReaderFits, pendingBits, wholeBits, ReadsByte, leftAt}
+use Rattle.zero_removal.proofs.Parts.{inFront-none, moved, unstuff-at, moved-front, slice-rest, byte-missing, byte-turn, firstReader, first-fits, first-left}
+use Rattle.line_ends.specs.declared.LastRead.{LastRead}
+use Rattle.line_ends.specs.Last.{lastOf, LastBits, ReadsLast}
 use Rattle.frame_walk.specs.Walk.{closed, refused}
 use Rattle.frame_walk.specs.Steps.{passed}
 
@@ -102,24 +105,62 @@ pub pass-end : {table : List ℕ} {start : ℕ} {lent : List ℕ} {end register 
 pass-end {table} {lent = lent} {end = end} {register = register} {count = count} {r = r} j e =
     ap (λ i. passed table end register count (leftAt (bitsOf lent) end i r)) (sym e) ∙ j .left
 
-module _ (table : List ℕ) (end register count : ℕ) where
-  pub last-missing : {u : Unstuffed} (p : ℕ) → u ≡ missing p → refused 33 p ≡ passed table end register count u
-  unfolding passed
-  last-missing p e = ap (passed table end register count) (sym e)
+-- the bits from the last byte on
+left-last : (lent : List ℕ) (end : ℕ) → end + 8 ≤ 8 * length lent → (r : LineReader)
+    → leftAt (bitsOf lent) end (end / 8) r ≡ moved (8 * (end / 8)) (lastOf r (getD lent (end / 8) 0) (end % 8))
+left-last lent end fits r =
+    let i = end / 8 in
+    let k = end % 8 in
+    let byte = getD lent i 0 in
+    let n : end - 8 * i ≡ k = omega arith in
+    let e : 8 ≡ k + (8 - k) = omega arith in
+    let rest = bitsOf (drop (i + 1) lent) in
+    let high = lowBits (8 - k) (byte / 2 ^ k) in
+    let ones = onesBefore (r .before) in
+    ap (λ s. inFront (pendingBits r) (unstuff ones (8 * i) s))
+    (slice-rest lent end (omega arith) i (omega arith)
+    ∙ ap₂ take n (bitsOf-on lent i (omega arith))
+    ∙ ap (λ s. take k (s ++ rest)) (ap (λ w. lowBits w byte) e ∙ lowBits-append k (8 - k) byte)
+    ∙ ap (take k) (append-assoc (lowBits k byte) high rest)
+    ∙ take-at (lowBits k byte) (high ++ rest) k (length-lowBits k byte))
+    ∙ ap (inFront (pendingBits r)) (unstuff-at ones (8 * i) (lowBits k byte))
+    ∙ moved-front (8 * i) (pendingBits r) (unstuff ones 0 (lowBits k byte))
 
-  module _ {u : Unstuffed} (s : List Bool) (e : u ≡ clean s) {n : ℕ} (counted : n ≡ length s) where
-    pub last-part : n < 8 → closed end (count + n) register ≡ passed table end register count u
+module _ (table : List ℕ) (register count : ℕ) (r : LineReader) (lent : List ℕ) (end : ℕ) (fits : end + 8 ≤ 8 * length lent) {x : LastRead}
+    (e : ReadsLast r (getD lent (end / 8) 0) (end % 8) x) where
+  abbrev i : ℕ
+  i = end / 8
+
+  pub last-missing : x .missing < 8 → refused 33 (8 * i + x .missing) ≡ passed table end register count (leftAt (bitsOf lent) end i r)
+  unfolding passed
+  last-missing m = ap (passed table end register count) (sym (left-last lent end fits r ∙ ap (moved (8 * i)) (e .unsound m)))
+
+  module _ (m : 8 ≤ x .missing) where
+    found : LastBits (lastOf r (getD lent i 0) (end % 8)) x
+    found = e .sound m
+
+    abbrev s : List Bool
+    s = found .bits
+
+    left : leftAt (bitsOf lent) end i r ≡ clean s
+    left = left-last lent end fits r ∙ ap (moved (8 * i)) (found .left)
+
+    pub last-few : x .bits < 16
+    last-few = omega (arith, found .counted, found .below)
+
+    pub last-part : x .bits < 8 → closed end (count + x .bits) register ≡ passed table end register count (leftAt (bitsOf lent) end i r)
     unfolding passed enterAllByTable
     last-part l =
-        let z : length s / 8 ≤ 0 = omega arith in
-        ap₂ (closed end) (ap (λ k. count + k) counted) (sym (ap (enterAllByTable table register) (packInto-none (length s / 8) s z)))
-        ∙ ap (passed table end register count) (sym e)
+        let z : length s / 8 ≤ 0 = omega (arith, found .counted) in
+        ap₂ (closed end) (ap (λ k. count + k) (found .counted)) (sym (ap (enterAllByTable table register) (packInto-none (length s / 8) s z)))
+        ∙ ap (passed table end register count) (sym left)
 
-    pub last-byte : 8 ≤ n → n < 16 → {b next : ℕ} → value (take 8 s) ≡ b → next ≡ enterByTable table register b
-        → closed end (count + n) next ≡ passed table end register count u
+    pub last-byte : 8 ≤ x .bits → {next : ℕ} → next ≡ enterByTable table register (x .byte)
+        → closed end (count + x .bits) next ≡ passed table end register count (leftAt (bitsOf lent) end i r)
     unfolding passed enterAllByTable packInto
-    last-byte g l v en =
-        let q : length s / 8 ≡ 1 = omega arith in
-        ap₂ (closed end) (ap (λ k. count + k) counted)
-        (en ∙ sym (ap (λ x. enterAllByTable table register (packInto x s)) q ∙ ap (enterByTable table register) v))
-        ∙ ap (passed table end register count) (sym e)
+    last-byte g en =
+        let q : length s / 8 ≡ 1 = omega (arith, found .counted, found .below) in
+        ap₂ (closed end) (ap (λ k. count + k) (found .counted))
+        (en
+        ∙ sym (ap (λ x. enterAllByTable table register (packInto x s)) q ∙ ap (enterByTable table register) (found .first (omega (arith, found .counted)))))
+        ∙ ap (passed table end register count) (sym left)

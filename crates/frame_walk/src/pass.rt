@@ -4,6 +4,7 @@ use crate::Walk;
 use crate::WalkEnd;
 use frame::BitPlace;
 use frame::ReadRefusal;
+use line_ends::read_last;
 use registers::enter_byte;
 use zero_removal::LineReader;
 use zero_removal::read_byte;
@@ -17,40 +18,35 @@ ghost use Rattle.frame_walk.specs.Walk.{ofWalk};
 ghost use Rattle.zero_removal.specs.Reader.{ReaderFits, leftAt};
 ghost use Rattle.frame_walk.specs.Steps.{passed};
 
-// The bits behind the whole bytes of the line, and a one behind them as a mark: the highest one of what is read tells how many bits
-// content and check have. At most one byte of theirs is whole.
-fn last(table: &[u32; 256], register: u32, count: usize, r: LineReader, lent: &[u8], end: usize) -> WalkEnd
+// The bits behind the whole bytes of the line: at most one byte of content and check is whole there.
+fn last(
+    table: &[u32; 256],
+    register: u32,
+    count: usize,
+    r: LineReader,
+    lent: &[u8],
+    end: usize,
+) -> WalkEnd
     requires { ⌜ ReaderFits r × (end + 8 ≤ 8 * length (now lent)) × (end + 8 < 2 ^ 64) × (count + 8 ≤ end) ⌝ }
     ensures { λ x. ⌜ ofWalk x ≡ passed (now (table .entry)) end register count (leftAt (bitsOf (now (lent .entry))) end (end / 8) r) ⌝ }
 {
     let index = end / 8;
-    let mark = 1u8 << (end % 8);
-    let read = read_byte(r, lent[index] % mark + mark);
-    let missing = read.missing;
-    if missing < 8 {
-        return WalkEnd::Refused(ReadRefusal::ZeroMissing(BitPlace(8 * index + missing as usize)));
+    let x = read_last(r, lent[index], end % 8);
+    if x.missing < 8 {
+        return WalkEnd::Refused(ReadRefusal::ZeroMissing(BitPlace(8 * index + x.missing as usize)));
     }
-    let held = read.next.held;
-    if !read.whole {
-        let bits = 31 - u32::leading_zeros(held);
+    let bits = count + x.bits as usize;
+    if x.bits < 8 {
         return WalkEnd::Closed(Walk {
             end,
-            count: count + bits as usize,
-            register,
-        });
-    }
-    let bits = 31 - u32::leading_zeros((read.byte as u32) | (held << 8));
-    if bits < 8 {
-        return WalkEnd::Closed(Walk {
-            end,
-            count: count + bits as usize,
+            count: bits,
             register,
         });
     }
     WalkEnd::Closed(Walk {
         end,
-        count: count + bits as usize,
-        register: enter_byte(table, register, read.byte),
+        count: bits,
+        register: enter_byte(table, register, x.byte),
     })
 }
 

@@ -5,7 +5,7 @@ use cyclic5::Cyclic5;
 use cyclic6::Cyclic6;
 use frame::FrameMethod;
 use frame::ReadRefusal;
-use line_bits::is_flag;
+use line_ends::is_flag;
 use tables::ccitt16;
 use tables::ieee32;
 ghost use mathlib.Core.Path.{_≡_};

@@ -70,8 +70,28 @@ part-moved k run p (b ∷ s) =
     ap (unstuffBit (eqb run 5) b (k + p)) (ap (λ n. unstuffPart (onesAfter run b) n s) e ∙ part-moved k (onesAfter run b) (p + 1) s)
     ∙ sym (moved-bit k (eqb run 5) b p (unstuffPart (onesAfter run b) (p + 1) s))
 
-pub part-at : (run p : ℕ) (s : List Bool) → unstuffPart run p s ≡ moved p (unstuffPart run 0 s)
+part-at : (run p : ℕ) (s : List Bool) → unstuffPart run p s ≡ moved p (unstuffPart run 0 s)
 part-at run p s = let e : p ≡ p + 0 = omega arith in ap (λ n. unstuffPart run n s) e ∙ part-moved p run 0 s
+
+-- and all of the line
+unstuff-moved : (k run p : ℕ) (s : List Bool) → unstuff run (k + p) s ≡ moved k (unstuff run p s)
+unfolding unstuff
+unstuff-moved k run p [] = go (eqb run 5)
+  where
+    go : (t : Bool) → cond t (missing (k + p)) (clean []) ≡ moved k (cond t (missing p) (clean []))
+    go true = refl
+    go false = refl
+unstuff-moved k run p (b ∷ s) =
+    let e : k + p + 1 ≡ k + (p + 1) = omega arith in
+    ap (unstuffBit (eqb run 5) b (k + p)) (ap (λ n. unstuff (onesAfter run b) n s) e ∙ unstuff-moved k (onesAfter run b) (p + 1) s)
+    ∙ sym (moved-bit k (eqb run 5) b p (unstuff (onesAfter run b) (p + 1) s))
+
+pub unstuff-at : (run p : ℕ) (s : List Bool) → unstuff run p s ≡ moved p (unstuff run 0 s)
+unstuff-at run p s = let e : p ≡ p + 0 = omega arith in ap (λ n. unstuff run n s) e ∙ unstuff-moved p run 0 s
+
+pub moved-front : (k : ℕ) (f : List Bool) (v : Unstuffed) → inFront f (moved k v) ≡ moved k (inFront f v)
+moved-front k f (clean s) = refl
+moved-front k f (missing p) = refl
 
 front-before : (k : ℕ) (d : List Bool) (v u : Unstuffed) → inFront d (before (moved k v) u) ≡ before (moved k (inFront d v)) u
 front-before k d (clean s) u = inFront-append d s u

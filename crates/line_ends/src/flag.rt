@@ -1,23 +1,10 @@
-// The bits of a line at their places, over the bytes lent: the bit at a place, and whether a flag stands there. Every function takes
-// every input.
+// A flag at a place of the line.
 use frame::FLAG;
 ghost use mathlib.Core.Path.{_≡_};
-ghost use mathlib.Core.Bool.{false};
-ghost use lib.ListN.{take, drop, getD};
+ghost use lib.ListN.{take, drop};
 ghost use Rattle.bits.specs.Strings.{same};
 ghost use Rattle.bits.specs.Bytes.{bitsOf};
 ghost use Rattle.frame.specs.Frame.{flag};
-
-// The bit at a place; behind the line a zero.
-pub fn bit_at(line: &[u8], at: usize) -> bool
-    ensures { λ r. ⌜ r ≡ getD (bitsOf (now (line .entry))) at false ⌝ }
-{
-    let index = at / 8;
-    if index >= line.len() {
-        return false;
-    }
-    (line[index] >> (at % 8)) & 1 == 1
-}
 
 // Whether the eight bits from a place on are a flag.
 pub fn is_flag(line: &[u8], at: usize) -> bool

@@ -6,10 +6,10 @@ use native.Mathlib.Nat.{mod-eq-of-lt}
 use denote.Ref.{now}
 use lib.Dec.{eqb}
 use lib.ListN.{getD}
-use Rattle.line_bits.proofs.Places.{flag-none, flag-value, one-byte, two-bytes}
+use Rattle.line_ends.proofs.Eight.{flag-none, flag-value, one-byte, two-bytes}
 use borrow.Author.Needs.{needs}
-use Rattle.line_bits.proofs.is_flag.Statement.{statement}
-use Rattle.line_bits.proofs.is_flag.Tie as tie
+use Rattle.line_ends.proofs.flag.is_flag.Statement.{statement}
+use Rattle.line_ends.proofs.flag.is_flag.Tie as tie
 
 returns : tie.Need-returns
 returns c =

@@ -1,55 +1,19 @@
--- Bits at their places: a place of a row of bytes is a place of one of them, and the eight bits from a place on stand in one byte or
--- in two. Assumes nothing.
+-- The eight bits from a place on stand in one byte or in two. Assumes nothing.
 use mathlib.Core.Path.{_≡_, refl, sym, ap, ap₂, _∙_, subst}
 use mathlib.Core.Bool.{Bool, true, false}
-use mathlib.Core.List.{List, [], _∷_, _++_, append-assoc}
-use Prim.Native.Nat.{ℕ, zero, suc, _+_, _*_, _-_, _/_, _%_, _^_, _<_, _≤_}
+use mathlib.Core.List.{List, _++_, append-assoc}
+use Prim.Native.Nat.{ℕ, _+_, _*_, _-_, _/_, _%_, _^_, _<_}
 use native.Mathlib.Omega.{arith}
-use native.Mathlib.Nat.{mul-comm, div-one, div-div-eq-div-mul, pow-suc}
 use lib.Dec.{T, eqb, lit<}
-use lib.Bits.{bitAnd, bitOr, and-mask}
-use lib.ListN.{length, take, drop, getD, length-take, length-drop, List·getD-append, List·getD-eq-default}
-use lib.Seq.{getD-append-add, take-at, drop-at, drop-drop}
+use lib.Bits.{bitOr}
+use lib.ListN.{length, take, drop, getD, length-take, length-drop}
+use lib.Seq.{take-at, drop-at, drop-drop}
 use Rattle.bits.specs.Strings.{same}
 use Rattle.bits.specs.Bytes.{lowBits, bitsOf}
 use Rattle.bits.proofs.Strings.{same-sound}
 use Rattle.bits.proofs.Bytes.{length-bitsOf, length-lowBits, lowBits-append, value-lowBits, equal-value}
 use Rattle.frame.specs.Frame.{flag}
 use Rattle.frame.proofs.Words.{join, joined-or, joined-bits, bitsOf-on, bitsOf-drop}
-
--- ---- the bit at a place
-
-lowBits-at : (w n p : ℕ) → p < w → getD (lowBits w n) p false ≡ eqb (n / 2 ^ p % 2) 1
-unfolding lowBits
-lowBits-at zero n p h = absurd (omega arith)
-lowBits-at (suc w) n zero h = ap (λ v. eqb (v % 2) 1) (sym (div-one n))
-lowBits-at (suc w) n (suc p) h =
-    lowBits-at w (n / 2) p (omega arith)
-    ∙ ap (λ v. eqb (v % 2) 1) (div-div-eq-div-mul n 2 (2 ^ p) ∙ ap (λ k. n / k) (mul-comm 2 (2 ^ p) ∙ sym (pow-suc 2 p)))
-
-bitsOf-at : (bs : List ℕ) (k p : ℕ) → p < 8 → k < length bs → getD (bitsOf bs) (8 * k + p) false ≡ eqb (getD bs k 0 / 2 ^ p % 2) 1
-unfolding bitsOf
-bitsOf-at [] k p h l = absurd (omega arith)
-bitsOf-at (b ∷ bs) zero p h l =
-    let e : 8 * 0 + p ≡ p = omega arith in
-    let q : p < length (lowBits 8 b) = omega (arith, length-lowBits 8 b) in
-    ap (λ i. getD (lowBits 8 b ++ bitsOf bs) i false) e ∙ List·getD-append (lowBits 8 b) (bitsOf bs) false p q ∙ lowBits-at 8 b p h
-bitsOf-at (b ∷ bs) (suc k) p h l =
-    let e : 8 * suc k + p ≡ length (lowBits 8 b) + (8 * k + p) = omega (arith, length-lowBits 8 b) in
-    ap (λ i. getD (lowBits 8 b ++ bitsOf bs) i false) e
-    ∙ getD-append-add (lowBits 8 b) (bitsOf bs) (8 * k + p) false ∙ bitsOf-at bs k p h (omega arith)
-
--- as code reads it: the byte shifted down, its low bit kept
-pub bit-read : (bs : List ℕ) (at : ℕ) → at < 8 * length bs → eqb (bitAnd (getD bs (at / 8) 0 / 2 ^ (at % 8)) 1) 1 ≡ getD (bitsOf bs) at false
-bit-read bs at h =
-    let e : 8 * (at / 8) + at % 8 ≡ at = omega arith in
-    ap (λ v. eqb v 1) (and-mask (getD bs (at / 8) 0 / 2 ^ (at % 8)) 1)
-    ∙ sym (bitsOf-at bs (at / 8) (at % 8) (omega arith) (omega arith)) ∙ ap (λ i. getD (bitsOf bs) i false) e
-
-pub bit-none : (bs : List ℕ) (at : ℕ) → length bs ≤ at / 8 → false ≡ getD (bitsOf bs) at false
-bit-none bs at h = sym (List·getD-eq-default (bitsOf bs) false (omega (arith, length-bitsOf bs)))
-
--- ---- a flag
 
 module _ (bs : List ℕ) (at : ℕ) where
   abbrev index : ℕ
