@@ -20,7 +20,7 @@ use Rattle.zero_removal.specs.Reader.{ReaderFits, pendingBits, wholeBits, Reads
 use Rattle.zero_removal.proofs.Parts.{inFront-none, moved, unstuff-at, moved-front, slice-rest, byte-missing, byte-turn, firstReader, first-fits, first-left}
 use Rattle.line_ends.specs.declared.LastRead.{LastRead}
 use Rattle.line_ends.specs.Last.{lastOf, LastBits, ReadsLast}
-use Rattle.frame_walk.specs.Walk.{closed, refused}
+use Rattle.frame_walk.specs.Walk.{Walked, closed, refused}
 use Rattle.frame_walk.specs.Steps.{passed}
 
 -- ---- a byte entered
@@ -101,9 +101,10 @@ module _ {table : List ℕ} {start : ℕ} {lent : List ℕ} {end register count 
 -- ---- the bits behind them
 
 pub pass-end : {table : List ℕ} {start : ℕ} {lent : List ℕ} {end register count index : ℕ} {r : LineReader} → Passing table start lent end register count index r
-    → index ≡ end / 8 → passed table end register count (leftAt (bitsOf lent) end (end / 8) r) ≡ passed table end start 0 (unstuff 0 8 (slice 8 end (bitsOf lent)))
-pass-end {table} {lent = lent} {end = end} {register = register} {count = count} {r = r} j e =
-    ap (λ i. passed table end register count (leftAt (bitsOf lent) end i r)) (sym e) ∙ j .left
+    → index ≡ end / 8 → {w : Walked} → w ≡ passed table end register count (leftAt (bitsOf lent) end (end / 8) r)
+    → w ≡ passed table end start 0 (unstuff 0 8 (slice 8 end (bitsOf lent)))
+pass-end {table} {lent = lent} {end = end} {register = register} {count = count} {r = r} j e q =
+    q ∙ ap (λ i. passed table end register count (leftAt (bitsOf lent) end i r)) (sym e) ∙ j .left
 
 -- the bits from the last byte on
 left-last : (lent : List ℕ) (end : ℕ) → end + 8 ≤ 8 * length lent → (r : LineReader)

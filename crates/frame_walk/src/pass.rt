@@ -7,7 +7,8 @@ use frame::ReadRefusal;
 use line_ends::read_last;
 use registers::enter_byte;
 use zero_removal::LineReader;
-use zero_removal::read_byte;
+use zero_removal::read_bits;
+use zero_removal::unstuff_byte;
 ghost use mathlib.Core.Path.{_≡_};
 ghost use Prim.Native.Nat.{_+_, _*_, _/_, _^_, _<_, _≤_};
 ghost use lib.ListN.{length};
@@ -64,7 +65,8 @@ pub(crate) fn pass(table: &[u32; 256], start: u32, lent: &[u8], end: usize) -> W
     };
     while index < end / 8 {
         let byte = lent[index];
-        let read = read_byte(r, byte);
+        let got = unstuff_byte(r.before, byte);
+        let read = read_bits(r, byte, got);
         let missing = read.missing;
         if missing < 8 {
             return WalkEnd::Refused(ReadRefusal::ZeroMissing(BitPlace(

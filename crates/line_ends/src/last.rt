@@ -1,7 +1,8 @@
 // The last bits of the line before the closing flag.
 use crate::LastRead;
 use zero_removal::LineReader;
-use zero_removal::read_byte;
+use zero_removal::read_bits;
+use zero_removal::unstuff_byte;
 ghost use Prim.Native.Nat.{_<_};
 ghost use Rattle.zero_removal.specs.Reader.{ReaderFits};
 ghost use Rattle.line_ends.specs.Last.{ReadsLast};
@@ -12,7 +13,8 @@ pub fn read_last(r: LineReader, byte: u8, k: usize) -> LastRead
     ensures { λ x. ⌜ (ReaderFits r → k < 8 → ReadsLast r byte k x) ⌝ }
 {
     let mark = 1u8 << (k % 8);
-    let read = read_byte(r, byte % mark + mark);
+    let marked = byte % mark + mark;
+    let read = read_bits(r, marked, unstuff_byte(r.before, marked));
     let held = read.next.held;
     if !read.whole {
         return LastRead {

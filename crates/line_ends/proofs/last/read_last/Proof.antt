@@ -13,35 +13,40 @@ cast-mark c = search needs
 shl-mark : tie.Need-shl-mark
 shl-mark c = search needs
 
-rem-read-byte : tie.Need-rem-read-byte
-rem-read-byte c = mark-some (c .args .byte) (c .args .k % 8) (omega arith)
+rem-marked : tie.Need-rem-marked
+rem-marked c = mark-some (c .args .byte) (c .args .k % 8) (omega arith)
 
-add-read-byte : tie.Need-add-read-byte
-add-read-byte c = omega (arith, marked-small (c .args .byte) (c .args .k % 8) (omega arith))
+add-marked : tie.Need-add-marked
+add-marked c = omega (arith, marked-small (c .args .byte) (c .args .k % 8) (omega arith))
 
-read-byte-requires : tie.Need-read-byte-requires
-read-byte-requires c κs = search needs
+unstuff-byte-requires : tie.Need-unstuff-byte-requires
+unstuff-byte-requires c κs = search needs
 
-sub-t13 : tie.Need-sub-t13
-sub-t13 c = search needs
+read-bits-requires : tie.Need-read-bits-requires
+read-bits-requires c κs = search needs
+
+sub-t14 : tie.Need-sub-t14
+sub-t14 c = search needs
 
 returns : tie.Need-returns
 returns c fits h =
     let b = c .before .before in
-    let a = b .before .args in
-    last-part (a .r) (a .byte) (a .k) h (read-marked (a .byte) (a .k) h (omega arith) (b .read-byte .ensures fits)) (not-true _ (c .if1 .taken))
+    let a = b .before .before .args in
+    let e = b .read-bits .ensures fits (b .before .unstuff-byte .ensures (fits .before-small)) in
+    last-part (a .r) (a .byte) (a .k) h (read-marked (a .byte) (a .k) h (omega arith) e) (not-true _ (c .if1 .taken))
 
-cast-t14 : tie.Need-cast-t14
-cast-t14 c = search needs
+cast-t15 : tie.Need-cast-t15
+cast-t15 c = search needs
 
-sub-t19 : tie.Need-sub-t19
-sub-t19 c = search needs
+sub-t20 : tie.Need-sub-t20
+sub-t20 c = search needs
 
 returns-2 : tie.Need-returns-2
 returns-2 c fits h =
     let b = c .before .before .before in
-    let a = b .before .args in
-    last-whole (a .r) (a .byte) (a .k) h (read-marked (a .byte) (a .k) h (omega arith) (b .read-byte .ensures fits)) (omega arith) (not-false _ (c .before .if1 .left))
+    let a = b .before .before .args in
+    let e = b .read-bits .ensures fits (b .before .unstuff-byte .ensures (fits .before-small)) in
+    last-whole (a .r) (a .byte) (a .k) h (read-marked (a .byte) (a .k) h (omega arith) e) (omega arith) (not-false _ (c .before .if1 .left))
 
 pub read-last-spec : {M : Type 1} → statement M
 read-last-spec =
@@ -49,11 +54,12 @@ read-last-spec =
     (tie.spec
     cast-mark
     shl-mark
-    rem-read-byte
-    add-read-byte
-    read-byte-requires
-    sub-t13
+    rem-marked
+    add-marked
+    unstuff-byte-requires
+    read-bits-requires
+    sub-t14
     returns
-    cast-t14
-    sub-t19
+    cast-t15
+    sub-t20
     returns-2)
