@@ -2,7 +2,7 @@
 use mathlib.Core.Path.{_≡_, refl, sym, ap, ap₂, subst, _∙_}
 use mathlib.Core.Bool.{Bool}
 use mathlib.Core.List.{List, _++_}
-use Prim.Native.Nat.{ℕ, _+_, _*_, _/_, _^_, _<_}
+use Prim.Native.Nat.{ℕ, _+_, _/_, _^_, _<_}
 use native.Mathlib.Nat.{mod-eq-of-lt, zero-add}
 use native.Mathlib.Omega.{arith}
 use lib.ListN.{length}
