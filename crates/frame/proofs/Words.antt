@@ -1,16 +1,16 @@
 -- Bits held in a number: bits put above them, the byte taken from below them, and bytes stored one after the other. Assumes
 -- nothing.
-use mathlib.Core.Path.{_≡_, sym, ap, ap₂, _∙_}
+use mathlib.Core.Path.{_≡_, refl, sym, ap, ap₂, _∙_}
 use mathlib.Core.Bool.{Bool}
 use mathlib.Core.List.{List, [], _∷_, _++_}
-use Prim.Native.Nat.{ℕ, suc, _+_, _*_, _/_, _%_, _^_, _<_, _≤_}
+use Prim.Native.Nat.{ℕ, zero, suc, _+_, _*_, _/_, _%_, _^_, _<_, _≤_}
 use native.Mathlib.Omega.{arith}
 use native.Mathlib.Nat.{div-lt-iff-lt-mul}
 use native.Mathlib.Numerals.{add-one}
 use lib.Bits.{bitOr, or-shifted-r}
 use lib.Pow.{pow-add, pow-pos, shl-exact, shr-lt, high, low}
 use lib.ListN.{length, set, length-append, getD, drop, drop-of-length-le}
-use lib.Seq.{sets, take-at, drop-at, take-all, drop-cons}
+use lib.Seq.{sets, take-at, drop-at, take-all, drop-cons, drop-drop}
 use Rattle.bits.specs.Bytes.{lowBits, value, bytesFor, packInto, pack, bitsOf}
 use Rattle.bits.proofs.Bytes.{length-lowBits, lowBits-append, lowBits-mod, value-lowBits}
 
@@ -73,3 +73,14 @@ module _ (bytes : List ℕ) (i : ℕ) where
   pub bitsOf-none : length bytes ≤ i → bitsOf (drop i bytes) ≡ []
   unfolding bitsOf
   bitsOf-none h = ap bitsOf (drop-of-length-le bytes h)
+
+-- the bits behind whole bytes
+pub bitsOf-drop : (i : ℕ) (bs : List ℕ) → drop (8 * i) (bitsOf bs) ≡ bitsOf (drop i bs)
+unfolding bitsOf
+bitsOf-drop zero bs = refl
+bitsOf-drop (suc i) [] = let h : 0 ≤ 8 * suc i = omega arith in drop-of-length-le [] h
+bitsOf-drop (suc i) (b ∷ bs) =
+    let e : 8 * suc i ≡ 8 + 8 * i = omega arith in
+    ap (λ n. drop n (lowBits 8 b ++ bitsOf bs)) e
+    ∙ sym (drop-drop (8 * i) 8 (lowBits 8 b ++ bitsOf bs))
+    ∙ ap (drop (8 * i)) (drop-at (lowBits 8 b) (bitsOf bs) 8 (length-lowBits 8 b)) ∙ bitsOf-drop i bs

@@ -1,6 +1,6 @@
 -- The walk and the framing put questions 31 to 33 alike: where the walk refuses, so does the framing; else it goes on to 34 to 36 with
 -- the bits that the walk passed. Assumes nothing.
-use mathlib.Core.Path.{_≡_, refl, sym, _∙_, subst}
+use mathlib.Core.Path.{_≡_, refl, sym, subst}
 use mathlib.Core.Bool.{Bool, true, false, cond}
 use mathlib.Core.List.{List}
 use Prim.Native.Nat.{ℕ, _*_, _-_}

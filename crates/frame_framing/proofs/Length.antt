@@ -3,14 +3,14 @@
 use mathlib.Core.Path.{_≡_, sym, ap, ap₂, _∙_}
 use mathlib.Core.Bool.{Bool}
 use mathlib.Core.List.{List, _++_}
-use Prim.Native.Nat.{ℕ, _+_, _*_, _-_, _/_, _%_, _^_, _<_, _≤_}
+use Prim.Native.Nat.{ℕ, _+_, _*_, _-_, _/_, _%_, _<_, _≤_}
 use native.Mathlib.Nat.{mod-eq-of-lt}
 use native.Mathlib.Omega.{arith}
 use borrow.Author.Tests.{eq-eqb, ne-eqb, le-leb, lt-leb}
 use lib.Dec.{eqb}
 use lib.ListN.{length, length-drop, take-append-drop}
 use lib.Seq.{take-all}
-use Rattle.bits.specs.Strings.{same, xorBits, zeros}
+use Rattle.bits.specs.Strings.{same}
 use Rattle.bits.specs.Bytes.{lowBits, value}
 use Rattle.bits.proofs.Bytes.{lowBits-value, value-lowBits, equal-as-bits}
 use Rattle.division.proofs.Linear.{length-remainder}

@@ -7,7 +7,7 @@ use native.Mathlib.Omega.{arith}
 use borrow.Author.Tests.{eqb-true, leb-true, le-leb, lt-leb}
 use lib.Dec.{eqb, leb}
 use lib.ListN.{length, take, drop}
-use lib.Seq.{slice, sets, sets-eq, length-take-le}
+use lib.Seq.{sets, sets-eq, length-take-le}
 use Rattle.bits.specs.Strings.{same}
 use Rattle.bits.specs.Bytes.{bitsOf, bytesFor, packInto, pack}
 use Rattle.bits.specs.Calls.{called}

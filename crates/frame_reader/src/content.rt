@@ -1,6 +1,7 @@
 // Handing out the content, from between the flags.
 use zero_removal::LineReader;
-use zero_removal::read_byte;
+use zero_removal::read_bits;
+use zero_removal::unstuff_byte;
 ghost use mathlib.Core.Path.{_≡_};
 ghost use Prim.Native.Nat.{_+_, _*_, _≤_};
 ghost use lib.ListN.{length};
@@ -22,7 +23,8 @@ pub(crate) fn hand_out(lent: &[u8], end: usize, n: usize, out: &mut [u8])
     let mut i: usize = 0;
     while i < n {
         let byte = lent[index];
-        let read = read_byte(r, byte);
+        let got = unstuff_byte(r.before, byte);
+        let read = read_bits(r, byte, got);
         if read.whole {
             out[i] = read.byte;
             i += 1;

@@ -1,6 +1,3 @@
-pub mod Places
-pub mod Removal
-pub mod Resting
 pub mod Passing
 pub mod Register
 pub mod Flags

@@ -1,11 +1,11 @@
 -- One pass with the check: what is left to pass gives the whole. Assumes nothing.
 use mathlib.Core.Path.{_≡_, refl, sym, ap, ap₂, _∙_}
-use mathlib.Core.Bool.{true, false}
-use mathlib.Core.List.{List, _++_}
+use mathlib.Core.Bool.{Bool, true, false}
+use mathlib.Core.List.{List, _++_, append-assoc}
 use Prim.Native.Nat.{ℕ, suc, _+_, _*_, _-_, _/_, _%_, _^_, _<_, _≤_}
 use native.Mathlib.Nat.{mod-eq-of-lt}
 use native.Mathlib.Omega.{arith}
-use lib.ListN.{length, take, getD, length-append}
+use lib.ListN.{length, take, drop, getD, length-append}
 use lib.Seq.{slice, take-at, drop-at}
 use Rattle.bits.specs.Bytes.{lowBits, bitsOf, value, packInto}
 use Rattle.bits.proofs.Bytes.{length-lowBits, lowBits-append, value-lowBits}
@@ -14,10 +14,13 @@ use Rattle.registers.specs.Register.{enterByTable, enterAllByTable}
 use Rattle.frame.specs.Stuffing.{Unstuffed, clean, missing, unstuff}
 use Rattle.zero_removal.specs.declared.LineReader.{LineReader}
 use Rattle.zero_removal.specs.declared.ByteRead.{ByteRead}
-use Rattle.zero_removal.specs.Removal.{inFront}
-use Rattle.zero_removal.specs.Reader.{ReaderFits, wholeBits, ReadsByte, leftAt}
-use Rattle.zero_removal.proofs.Parts.{inFront-none, byte-missing, byte-turn, firstReader, first-fits, first-left}
-use Rattle.frame_walk.specs.Walk.{closed, refused}
+use Rattle.frame.proofs.Words.{bitsOf-on}
+use Rattle.zero_removal.specs.Removal.{onesBefore, inFront}
+use Rattle.zero_removal.specs.Reader.{ReaderFits, pendingBits, wholeBits, ReadsByte, leftAt}
+use Rattle.zero_removal.proofs.Parts.{inFront-none, moved, unstuff-at, moved-front, slice-rest, byte-missing, byte-turn, firstReader, first-fits, first-left}
+use Rattle.line_ends.specs.declared.LastRead.{LastRead}
+use Rattle.line_ends.specs.Last.{lastOf, LastBits, ReadsLast}
+use Rattle.frame_walk.specs.Walk.{Walked, closed, refused}
 use Rattle.frame_walk.specs.Steps.{passed}
 
 -- ---- a byte entered
@@ -52,8 +55,11 @@ pass-begin table start lent end h =
       counted = omega arith;
     }
 
-module _ {table : List ℕ} {start : ℕ} {lent : List ℕ} {end register count index : ℕ} {r : LineReader} (fit : end ≤ 8 * length lent)
+module _ {table : List ℕ} {start : ℕ} {lent : List ℕ} {end register count index : ℕ} {r : LineReader} (wide : end + 8 ≤ 8 * length lent)
     (j : Passing table start lent end register count index r) (h : 8 * (index + 1) ≤ end) {x : ByteRead} (reads : ReaderFits r → ReadsByte r (getD lent index 0) x) where
+  fit : end ≤ 8 * length lent
+  fit = omega arith
+
   e : ReadsByte r (getD lent index 0) x
   e = reads (j .fits)
 
@@ -95,33 +101,67 @@ module _ {table : List ℕ} {start : ℕ} {lent : List ℕ} {end register count 
 -- ---- the bits behind them
 
 pub pass-end : {table : List ℕ} {start : ℕ} {lent : List ℕ} {end register count index : ℕ} {r : LineReader} → Passing table start lent end register count index r
-    → {u : Unstuffed} → u ≡ leftAt (bitsOf lent) end index r → passed table end register count u ≡ passed table end start 0 (unstuff 0 8 (slice 8 end (bitsOf lent)))
-pass-end {table} {end = end} {register = register} {count = count} j e = ap (passed table end register count) e ∙ j .left
+    → index ≡ end / 8 → {w : Walked} → w ≡ passed table end register count (leftAt (bitsOf lent) end (end / 8) r)
+    → w ≡ passed table end start 0 (unstuff 0 8 (slice 8 end (bitsOf lent)))
+pass-end {table} {lent = lent} {end = end} {register = register} {count = count} {r = r} j e q =
+    q ∙ ap (λ i. passed table end register count (leftAt (bitsOf lent) end i r)) (sym e) ∙ j .left
 
-module _ (table : List ℕ) (end register count : ℕ) where
-  pub last-missing : (p : ℕ) → refused 33 p ≡ passed table end register count (missing p)
+-- the bits from the last byte on
+left-last : (lent : List ℕ) (end : ℕ) → end + 8 ≤ 8 * length lent → (r : LineReader)
+    → leftAt (bitsOf lent) end (end / 8) r ≡ moved (8 * (end / 8)) (lastOf r (getD lent (end / 8) 0) (end % 8))
+left-last lent end fits r =
+    let i = end / 8 in
+    let k = end % 8 in
+    let byte = getD lent i 0 in
+    let n : end - 8 * i ≡ k = omega arith in
+    let e : 8 ≡ k + (8 - k) = omega arith in
+    let rest = bitsOf (drop (i + 1) lent) in
+    let high = lowBits (8 - k) (byte / 2 ^ k) in
+    let ones = onesBefore (r .before) in
+    ap (λ s. inFront (pendingBits r) (unstuff ones (8 * i) s))
+    (slice-rest lent end (omega arith) i (omega arith)
+    ∙ ap₂ take n (bitsOf-on lent i (omega arith))
+    ∙ ap (λ s. take k (s ++ rest)) (ap (λ w. lowBits w byte) e ∙ lowBits-append k (8 - k) byte)
+    ∙ ap (take k) (append-assoc (lowBits k byte) high rest)
+    ∙ take-at (lowBits k byte) (high ++ rest) k (length-lowBits k byte))
+    ∙ ap (inFront (pendingBits r)) (unstuff-at ones (8 * i) (lowBits k byte))
+    ∙ moved-front (8 * i) (pendingBits r) (unstuff ones 0 (lowBits k byte))
+
+module _ (table : List ℕ) (register count : ℕ) (r : LineReader) (lent : List ℕ) (end : ℕ) (fits : end + 8 ≤ 8 * length lent) {x : LastRead}
+    (e : ReadsLast r (getD lent (end / 8) 0) (end % 8) x) where
+  abbrev i : ℕ
+  i = end / 8
+
+  pub last-missing : x .missing < 8 → refused 33 (8 * i + x .missing) ≡ passed table end register count (leftAt (bitsOf lent) end i r)
   unfolding passed
-  last-missing p = refl
+  last-missing m = ap (passed table end register count) (sym (left-last lent end fits r ∙ ap (moved (8 * i)) (e .unsound m)))
 
-  module _ (held pending : ℕ) where
-    pub last-part : pending < 8 → closed end (count + pending) register ≡ passed table end register count (clean (lowBits pending held))
+  module _ (m : 8 ≤ x .missing) where
+    found : LastBits (lastOf r (getD lent i 0) (end % 8)) x
+    found = e .sound m
+
+    abbrev s : List Bool
+    s = found .bits
+
+    left : leftAt (bitsOf lent) end i r ≡ clean s
+    left = left-last lent end fits r ∙ ap (moved (8 * i)) (found .left)
+
+    pub last-few : x .bits < 16
+    last-few = omega (arith, found .counted, found .below)
+
+    pub last-part : x .bits < 8 → closed end (count + x .bits) register ≡ passed table end register count (leftAt (bitsOf lent) end i r)
     unfolding passed enterAllByTable
     last-part l =
-        let s = lowBits pending held in
-        let n : count + pending ≡ count + length s = omega (arith, length-lowBits pending held) in
-        let z : length s / 8 ≤ 0 = omega (arith, length-lowBits pending held) in
-        ap₂ (closed end) n (sym (ap (enterAllByTable table register) (packInto-none (length s / 8) s z)))
+        let z : length s / 8 ≤ 0 = omega (arith, found .counted) in
+        ap₂ (closed end) (ap (λ k. count + k) (found .counted)) (sym (ap (enterAllByTable table register) (packInto-none (length s / 8) s z)))
+        ∙ ap (passed table end register count) (sym left)
 
-    pub last-byte : 8 ≤ pending → pending < 15 → {next : ℕ} → next ≡ enterByTable table register (held % 256)
-        → closed end (count + pending) next ≡ passed table end register count (clean (lowBits pending held))
+    pub last-byte : 8 ≤ x .bits → {next : ℕ} → next ≡ enterByTable table register (x .byte)
+        → closed end (count + x .bits) next ≡ passed table end register count (leftAt (bitsOf lent) end i r)
     unfolding passed enterAllByTable packInto
-    last-byte g l {next} en =
-        let s = lowBits pending held in
-        let n : count + pending ≡ count + length s = omega (arith, length-lowBits pending held) in
-        let q : length s / 8 ≡ 1 = omega (arith, length-lowBits pending held) in
-        let k : 8 + (pending - 8) ≡ pending = omega arith in
-        let t : take 8 s ≡ lowBits 8 held =
-        ap (λ p. take 8 (lowBits p held)) (sym k) ∙ ap (take 8) (lowBits-append 8 (pending - 8) held)
-        ∙ take-at (lowBits 8 held) (lowBits (pending - 8) (held / 2 ^ 8)) 8 (length-lowBits 8 held) in
-        let v : value (take 8 s) ≡ held % 256 = ap value t ∙ value-lowBits 8 held in
-        ap₂ (closed end) n (en ∙ sym (ap (λ x. enterAllByTable table register (packInto x s)) q ∙ ap (enterByTable table register) v))
+    last-byte g en =
+        let q : length s / 8 ≡ 1 = omega (arith, found .counted, found .below) in
+        ap₂ (closed end) (ap (λ k. count + k) (found .counted))
+        (en
+        ∙ sym (ap (λ x. enterAllByTable table register (packInto x s)) q ∙ ap (enterByTable table register) (found .first (omega (arith, found .counted)))))
+        ∙ ap (passed table end register count) (sym left)

@@ -2,7 +2,7 @@
 use mathlib.Core.Path.{_≡_, refl, sym, ap, ap₂, subst, _∙_}
 use mathlib.Core.Bool.{Bool}
 use mathlib.Core.List.{List, _++_}
-use Prim.Native.Nat.{ℕ, _+_, _*_, _/_, _^_, _<_}
+use Prim.Native.Nat.{ℕ, _+_, _/_, _^_, _<_}
 use native.Mathlib.Nat.{mod-eq-of-lt, zero-add}
 use native.Mathlib.Omega.{arith}
 use lib.ListN.{length}
@@ -44,7 +44,10 @@ module _ (j : ℕ) (m : Parameters) (o : OfWidth (8 + j) m) {start : ℕ} (began
         sym (ap value (sym (register-bits s)) ∙ value-lowBits (8 + j) r ∙ mod-eq-of-lt below)
 
     -- so a pass with the method's table and start is the rule's walk
-    pub passed-zeros : (end : ℕ) (u : Unstuffed) → passed table end start 0 u ≡ walkZeros m end u
+    passed-zeros : (end : ℕ) (u : Unstuffed) → passed table end start 0 u ≡ walkZeros m end u
     unfolding passed walkZeros
     passed-zeros end (missing p) = refl
     passed-zeros end (clean s) = ap₂ (closed end) (zero-add (length s)) (register-value s)
+
+    pub walked : (end : ℕ) (u : Unstuffed) {w : Walked} → w ≡ passed table end start 0 u → w ≡ walkZeros m end u
+    walked end u e = e ∙ passed-zeros end u

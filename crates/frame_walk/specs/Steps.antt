@@ -1,22 +1,11 @@
 -- What the steps of the walk compute. The rules do not rest on these definitions. Assumes nothing.
-use Prim.Native.Nat.{ℕ, _+_, _/_, _<_}
+use Prim.Native.Nat.{ℕ, _+_, _/_}
 use mathlib.Core.List.{List}
 use lib.ListN.{length}
-use Rattle.bits.specs.Bytes.{lowBits, packInto}
+use Rattle.bits.specs.Bytes.{packInto}
 use Rattle.registers.specs.Register.{enterAllByTable}
 use Rattle.frame.specs.Stuffing.{Unstuffed, clean, missing}
-use Rattle.frame_walk.specs.declared.Rest.{Rest}
-use Rattle.frame_walk.specs.declared.Rest.the-variants as last
 use Rattle.frame_walk.specs.Walk.{Walked, closed, refused}
-
--- the bits of the rest, or the place of the missing zero
-abbrev pub ofRest : Rest → Unstuffed
-ofRest (last.Bits held pending) = clean (lowBits pending held)
-ofRest (last.Missing place) = missing (place .0)
-
-abbrev pub RestFits : Rest → Type 0
-RestFits (last.Bits held pending) = pending < 15
-RestFits (last.Missing place) = Unit
 
 -- a pass with a table, the closing flag at `end` and `count` bits passed before
 unfoldable pub passed : List ℕ → ℕ → ℕ → ℕ → Unstuffed → Walked

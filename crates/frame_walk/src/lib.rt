@@ -1,6 +1,5 @@
 // One walk over the bits of a frame (document 01, part 4): questions 31 to 33, how many bits content and check have, and the register
 // of the check after their whole bytes. `walk_frame` takes every input.
-use frame::BitPlace;
 use frame::ReadRefusal;
 
 // The place of the closing flag, how many bits content and check have, and the register of the check after their whole bytes.
@@ -16,14 +15,6 @@ pub enum WalkEnd {
     Refused(ReadRefusal),
 }
 
-// The bits that the last bits of the line leave, behind those that were pending; or the place where a zero is missing.
-pub(crate) enum Rest {
-    Bits(u32, u32),
-    Missing(BitPlace),
-}
-
-mod bitwise;
-mod flag;
 mod pass;
 mod questions;
 

@@ -1,11 +1,11 @@
 // Questions 31 to 33.
 use crate::WalkEnd;
-use crate::flag::is_flag;
 use crate::pass::pass;
 use cyclic5::Cyclic5;
 use cyclic6::Cyclic6;
 use frame::FrameMethod;
 use frame::ReadRefusal;
+use line_ends::is_flag;
 use tables::ccitt16;
 use tables::ieee32;
 ghost use mathlib.Core.Path.{_≡_};
@@ -19,7 +19,7 @@ ghost use Rattle.frame_walk.specs.Walk.{ofWalk, walkZeros, walkOf};
 
 // Question 33, of the bits up to the closing flag at `end`.
 fn walk_closed(m: FrameMethod, lent: &[u8], end: usize) -> WalkEnd
-    requires { ⌜ (8 ≤ end) × (end ≤ 8 * length (now lent)) × (end + 8 < 2 ^ 64) ⌝ }
+    requires { ⌜ (8 ≤ end) × (end + 8 ≤ 8 * length (now lent)) × (end + 8 < 2 ^ 64) ⌝ }
     ensures { λ r. ⌜ ofWalk r ≡ walkZeros (parametersOf m) end (unstuff 0 8 (slice 8 end (bitsOf (now (lent .entry))))) ⌝ }
 {
     match m {

@@ -2,11 +2,11 @@
 use mathlib.Core.Path.{_≡_, refl, sym, ap, ap₂, _∙_}
 use mathlib.Core.Bool.{Bool, true, false, cond}
 use mathlib.Core.List.{List, [], _∷_, _++_, append-assoc}
-use Prim.Native.Nat.{ℕ, zero, suc, _+_, _*_, _-_, _<_, _≤_}
+use Prim.Native.Nat.{ℕ, _+_, _*_, _-_, _<_, _≤_}
 use native.Mathlib.Omega.{arith}
 use lib.Dec.{eqb, lit<}
-use lib.ListN.{length, take, drop, getD, length-append, drop-of-length-le}
-use lib.Seq.{slice, length-slice, take-add, take-at, drop-at, drop-drop}
+use lib.ListN.{length, take, drop, getD, length-append}
+use lib.Seq.{slice, length-slice, take-add, take-at, drop-at}
 use Rattle.bits.specs.Bytes.{lowBits, bitsOf}
 use Rattle.bits.proofs.Bytes.{length-lowBits, length-bitsOf}
 use Rattle.zero_removal.specs.declared.LineReader.{LineReader}
@@ -15,7 +15,7 @@ use Rattle.frame.specs.Stuffing.{Unstuffed, clean, missing, unstuffBit, onesAft
 use Rattle.bits.proofs.WholeBytes.{drop-take}
 use Rattle.zero_removal.specs.Removal.{onesThrough, onesBefore, unstuffPart, inFront}
 use Rattle.zero_removal.specs.Reader.{dataOf, ReaderFits, pendingBits, wholeBits, partOf, ReadsByte, leftAt}
-use Rattle.frame.proofs.Words.{bitsOf-on}
+use Rattle.frame.proofs.Words.{bitsOf-on, bitsOf-drop}
 
 -- ---- bits in front
 
@@ -52,19 +52,18 @@ unstuff-parts run p (b ∷ s) t =
 
 -- ---- the same part from another place on
 
-moved : ℕ → Unstuffed → Unstuffed
+abbrev pub moved : ℕ → Unstuffed → Unstuffed
 moved k (clean s) = clean s
 moved k (missing p) = missing (k + p)
 
 moved-bit : (k : ℕ) (t b : Bool) (p : ℕ) (v : Unstuffed) → moved k (unstuffBit t b p v) ≡ unstuffBit t b (k + p) (moved k v)
-unfolding moved
 moved-bit k true true p v = refl
 moved-bit k true false p v = refl
 moved-bit k false b p (clean s) = refl
 moved-bit k false b p (missing q) = refl
 
 part-moved : (k run p : ℕ) (s : List Bool) → unstuffPart run (k + p) s ≡ moved k (unstuffPart run p s)
-unfolding moved unstuffPart
+unfolding unstuffPart
 part-moved k run p [] = refl
 part-moved k run p (b ∷ s) =
     let e : k + p + 1 ≡ k + (p + 1) = omega arith in
@@ -74,32 +73,41 @@ part-moved k run p (b ∷ s) =
 part-at : (run p : ℕ) (s : List Bool) → unstuffPart run p s ≡ moved p (unstuffPart run 0 s)
 part-at run p s = let e : p ≡ p + 0 = omega arith in ap (λ n. unstuffPart run n s) e ∙ part-moved p run 0 s
 
+-- and all of the line
+unstuff-moved : (k run p : ℕ) (s : List Bool) → unstuff run (k + p) s ≡ moved k (unstuff run p s)
+unfolding unstuff
+unstuff-moved k run p [] = go (eqb run 5)
+  where
+    go : (t : Bool) → cond t (missing (k + p)) (clean []) ≡ moved k (cond t (missing p) (clean []))
+    go true = refl
+    go false = refl
+unstuff-moved k run p (b ∷ s) =
+    let e : k + p + 1 ≡ k + (p + 1) = omega arith in
+    ap (unstuffBit (eqb run 5) b (k + p)) (ap (λ n. unstuff (onesAfter run b) n s) e ∙ unstuff-moved k (onesAfter run b) (p + 1) s)
+    ∙ sym (moved-bit k (eqb run 5) b p (unstuff (onesAfter run b) (p + 1) s))
+
+pub unstuff-at : (run p : ℕ) (s : List Bool) → unstuff run p s ≡ moved p (unstuff run 0 s)
+unstuff-at run p s = let e : p ≡ p + 0 = omega arith in ap (λ n. unstuff run n s) e ∙ unstuff-moved p run 0 s
+
+pub moved-front : (k : ℕ) (f : List Bool) (v : Unstuffed) → inFront f (moved k v) ≡ moved k (inFront f v)
+moved-front k f (clean s) = refl
+moved-front k f (missing p) = refl
+
 front-before : (k : ℕ) (d : List Bool) (v u : Unstuffed) → inFront d (before (moved k v) u) ≡ before (moved k (inFront d v)) u
-unfolding moved
 front-before k d (clean s) u = inFront-append d s u
 front-before k d (missing p) u = refl
 
 -- ---- a byte of the line
 
-drop-bits : (i : ℕ) (bs : List ℕ) → drop (8 * i) (bitsOf bs) ≡ bitsOf (drop i bs)
-unfolding bitsOf
-drop-bits zero bs = refl
-drop-bits (suc i) [] = let h : 0 ≤ 8 * suc i = omega arith in drop-of-length-le [] h
-drop-bits (suc i) (b ∷ bs) =
-    let e : 8 * suc i ≡ 8 + 8 * i = omega arith in
-    ap (λ n. drop n (lowBits 8 b ++ bitsOf bs)) e
-    ∙ sym (drop-drop (8 * i) 8 (lowBits 8 b ++ bitsOf bs))
-    ∙ ap (drop (8 * i)) (drop-at (lowBits 8 b) (bitsOf bs) 8 (length-lowBits 8 b)) ∙ drop-bits i bs
-
 module _ (lent : List ℕ) (end : ℕ) (fits : end ≤ 8 * length lent) where
   abbrev bits : List Bool
   bits = bitsOf lent
 
-  slice-rest : (i : ℕ) → 8 * i ≤ end → slice (8 * i) end bits ≡ take (end - 8 * i) (bitsOf (drop i lent))
+  pub slice-rest : (i : ℕ) → 8 * i ≤ end → slice (8 * i) end bits ≡ take (end - 8 * i) (bitsOf (drop i lent))
   slice-rest i h =
       let e : end ≡ 8 * i + (end - 8 * i) = omega arith in
       ap (λ k. drop (8 * i) (take k bits)) e
-      ∙ drop-take (8 * i) (end - 8 * i) bits (omega (arith, length-bitsOf lent)) ∙ ap (take (end - 8 * i)) (drop-bits i lent)
+      ∙ drop-take (8 * i) (end - 8 * i) bits (omega (arith, length-bitsOf lent)) ∙ ap (take (end - 8 * i)) (bitsOf-drop i lent)
 
   slice-byte : (i : ℕ) → 8 * (i + 1) ≤ end → slice (8 * i) end bits ≡ lowBits 8 (getD lent i 0) ++ slice (8 * (i + 1)) end bits
   slice-byte i h =
@@ -133,12 +141,10 @@ module _ (lent : List ℕ) (end : ℕ) (fits : end ≤ 8 * length lent) where
 
     -- a zero that is missing
     pub byte-missing : x .missing < 8 → leftAt bits end i r ≡ missing (8 * i + x .missing)
-    unfolding moved
     byte-missing m = in-parts ∙ ap (λ v. before (moved (8 * i) v) rest) (e .unsound m)
 
     -- else the bits that the byte gives
     pub byte-turn : x .missing ≡ 8 → leftAt bits end i r ≡ inFront (wholeBits (x .whole) (x .byte)) (leftAt bits end (i + 1) (x .next))
-    unfolding moved
     byte-turn m =
         let n : 8 * i + length (lowBits 8 byte) ≡ 8 * (i + 1) = omega (arith, length-lowBits 8 byte) in
         let next : rest ≡ unstuff (onesBefore (x .next .before)) (8 * (i + 1)) (slice (8 * (i + 1)) end bits) =

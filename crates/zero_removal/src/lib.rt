@@ -1,9 +1,10 @@
-// Zero removal, a byte of the line at a time, by what stands before it (003 par. 2.2.5): `read_byte` takes a byte of the line and gives
-// the next byte of content and check, where it is whole. It takes every input; for a reader that fits it gives what the rule gives.
+// Zero removal, a byte of the line at a time, by what stands before it (003 par. 2.2.5): `unstuff_byte` takes the inserted zeros out
+// of a byte of the line, and `read_bits` gives the next byte of content and check, where it is whole. They take every input; for a
+// reader that fits they give what the rule gives. They stand apart because in one they are not inlined.
 
 // A byte of the line as it is received: its bits without the inserted zeros, how many zeros those were, and the place of a one
 // where an inserted zero has to be, 8 where there is none.
-pub(crate) struct ReceivedByte {
+pub struct ReceivedByte {
     pub bits: u32,
     pub zeros: u32,
     pub missing: u32,
@@ -28,4 +29,5 @@ pub struct ByteRead {
 mod read;
 mod unstuff;
 
-pub use read::read_byte;
+pub use read::read_bits;
+pub use unstuff::unstuff_byte;

@@ -1,14 +1,14 @@
 // The next byte of content and check, out of the bytes of the line.
 use crate::ByteRead;
 use crate::LineReader;
-use crate::unstuff::unstuff_byte;
+use crate::ReceivedByte;
+ghost use Rattle.zero_removal.specs.Removal.{Receives};
 ghost use Rattle.zero_removal.specs.Reader.{ReaderFits, ReadsByte};
 
-// The bits that a byte of the line gives, behind those that are pending.
-pub fn read_byte(r: LineReader, byte: u8) -> ByteRead
-    ensures { λ x. ⌜ (ReaderFits r → ReadsByte r byte x) ⌝ }
+// The bits that a byte of the line gives as it is received, behind those that are pending.
+pub fn read_bits(r: LineReader, byte: u8, got: ReceivedByte) -> ByteRead
+    ensures { λ x. ⌜ (ReaderFits r → Receives (r .before) byte got → ReadsByte r byte x) ⌝ }
 {
-    let got = unstuff_byte(r.before, byte);
     let before = (byte as u32) >> 3;
     let held = r.held | (got.bits << (r.pending % 32));
     if got.zeros <= r.pending {

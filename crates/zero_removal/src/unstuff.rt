@@ -16,7 +16,7 @@ fn received(bits: u32, zeros: u32, missing: u32) -> ReceivedByte
 }
 
 // A byte as it is received behind five bits. In n ^ (n - 1) the bits up to the lowest one of n are ones.
-pub(crate) fn unstuff_byte(before: u32, byte: u8) -> ReceivedByte
+pub fn unstuff_byte(before: u32, byte: u8) -> ReceivedByte
     ensures { λ r. ⌜ (before < 32 → Receives before byte r) ⌝ }
 {
     let bits = byte as u32;

@@ -26,8 +26,11 @@ shared-slice-read-byte c =
     let h = hand-ahead (s .pre .0) (c .before .before .loop .inv) (c .before .loop-test .taken) in
     omega (arith, s .pre .0)
 
-read-byte-requires : tie.Need-read-byte-requires Inv-loop μ-loop
-read-byte-requires c κs = search needs
+unstuff-byte-requires : tie.Need-unstuff-byte-requires Inv-loop μ-loop
+unstuff-byte-requires c κs = search needs
+
+read-bits-requires : tie.Need-read-bits-requires Inv-loop μ-loop
+read-bits-requires c κs = search needs
 
 slice-write-out : tie.Need-slice-write-out Inv-loop μ-loop
 slice-write-out c = omega arith
@@ -37,35 +40,39 @@ add-i c = omega arith
 
 add-index : tie.Need-add-index Inv-loop μ-loop
 add-index c =
-    let s = c .before .before .before .before .before .before .before in
-    let h = hand-ahead (s .pre .0) (c .before .before .before .before .loop .inv) (c .before .before .before .loop-test .taken) in
+    let s = c .before .before .before .before .before .before .before .before in
+    let h = hand-ahead (s .pre .0) (c .before .before .before .before .before .loop .inv) (c .before .before .before .before .loop-test .taken) in
     omega (arith, s .pre .0)
 
 loop-less : tie.Need-loop-less Inv-loop μ-loop
 loop-less c =
-    let s = c .before .before .before .before .before .before .before .before in
-    let h = hand-ahead (s .pre .0) (c .before .before .before .before .before .loop .inv) (c .before .before .before .before .loop-test .taken) in
+    let s = c .before .before .before .before .before .before .before .before .before in
+    let h = hand-ahead (s .pre .0) (c .before .before .before .before .before .before .loop .inv) (c .before .before .before .before .before .loop-test .taken) in
     omega (arith, s .pre .0)
 
 loop-again : tie.Need-loop-again Inv-loop μ-loop
 loop-again c =
-    hand-turn (c .before .before .before .before .before .before .before .before .pre .0) (c .before .before .before .before .before .loop .inv) (c .before .before .before .before .loop-test .taken) (c .before .before .read-byte .ensures) (c .before .if1 .taken) (omega arith)
+    let e = c .before .before .read-bits .ensures in
+    let d = c .before .before .before .unstuff-byte .ensures in
+    hand-turn (c .before .before .before .before .before .before .before .before .before .pre .0) (c .before .before .before .before .before .before .loop .inv) (c .before .before .before .before .before .loop-test .taken) (λ f. e f (d (f .before-small))) (c .before .if1 .taken) (omega arith)
 
 add-index-2 : tie.Need-add-index-2 Inv-loop μ-loop
 add-index-2 c =
-    let s = c .before .before .before .before .before .before .before in
-    let h = hand-ahead (s .pre .0) (c .before .before .before .before .loop .inv) (c .before .before .before .loop-test .taken) in
-    omega (arith, s .pre .0)
-
-loop-less-2 : tie.Need-loop-less-2 Inv-loop μ-loop
-loop-less-2 c =
     let s = c .before .before .before .before .before .before .before .before in
     let h = hand-ahead (s .pre .0) (c .before .before .before .before .before .loop .inv) (c .before .before .before .before .loop-test .taken) in
     omega (arith, s .pre .0)
 
+loop-less-2 : tie.Need-loop-less-2 Inv-loop μ-loop
+loop-less-2 c =
+    let s = c .before .before .before .before .before .before .before .before .before in
+    let h = hand-ahead (s .pre .0) (c .before .before .before .before .before .before .loop .inv) (c .before .before .before .before .before .loop-test .taken) in
+    omega (arith, s .pre .0)
+
 loop-again-2 : tie.Need-loop-again-2 Inv-loop μ-loop
 loop-again-2 c =
-    hand-part (c .before .before .before .before .before .before .before .before .pre .0) (c .before .before .before .before .before .loop .inv) (c .before .before .before .before .loop-test .taken) (c .before .before .read-byte .ensures) (c .before .if1 .left)
+    let e = c .before .before .read-bits .ensures in
+    let d = c .before .before .before .unstuff-byte .ensures in
+    hand-part (c .before .before .before .before .before .before .before .before .before .pre .0) (c .before .before .before .before .before .before .loop .inv) (c .before .before .before .before .before .loop-test .taken) (λ f. e f (d (f .before-small))) (c .before .if1 .left)
 
 same-length : tie.Need-same-length Inv-loop μ-loop
 same-length c = c .before .loop .inv .size
@@ -81,7 +88,8 @@ hand-out-spec =
     μ-loop
     loop-holds
     shared-slice-read-byte
-    read-byte-requires
+    unstuff-byte-requires
+    read-bits-requires
     slice-write-out
     add-i
     add-index

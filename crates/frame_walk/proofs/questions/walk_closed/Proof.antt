@@ -1,5 +1,4 @@
 -- `walk_closed` meets its contract: the pass has the table and the start of the method. Assumes nothing.
-use mathlib.Core.Path.{_∙_}
 use denote.Ref.{now}
 use lib.Seq.{slice}
 use borrow.Author.Needs.{needs}
@@ -7,7 +6,7 @@ use Rattle.bits.specs.Bytes.{bitsOf}
 use Rattle.cyclic.specs.Check.{method5, method6}
 use Rattle.cyclic.proofs.Methods.{width-5, width-6, began}
 use Rattle.frame.specs.Stuffing.{unstuff}
-use Rattle.frame_walk.proofs.Register.{passed-zeros}
+use Rattle.frame_walk.proofs.Register.{walked}
 use Rattle.frame_walk.proofs.questions.walk_closed.Statement.{statement}
 use Rattle.frame_walk.proofs.questions.walk_closed.Tie as tie
 
@@ -44,8 +43,7 @@ returns c =
     let b = c .before .before .before .before in
     let a = b .before .before .before .before .args in
     rw (b .before .enum-told .given .1)
-    (c .pass .ensures
-    ∙ passed-zeros 8 method5 width-5 (began (b .new .ensures .0)) (search needs) (c .before .before .before .ccitt16 .ensures) (a .end) (unstuff 0 8 (slice 8 (a .end) (bitsOf (now (a .lent))))))
+    (walked 8 method5 width-5 (began (b .new .ensures .0)) (search needs) (c .before .before .before .ccitt16 .ensures) (a .end) (unstuff 0 8 (slice 8 (a .end) (bitsOf (now (a .lent))))) (c .pass .ensures))
 
 returns-2 : tie.Need-returns-2
 unfolding method6
@@ -53,8 +51,7 @@ returns-2 c =
     let b = c .before .before .before in
     let a = b .before .before .before .before .args in
     rw (b .before .enum-told2 .given .1)
-    (c .pass2 .ensures
-    ∙ passed-zeros 24 method6 width-6 (began (b .new2 .ensures .0)) (search needs) (c .before .before .ieee32 .ensures) (a .end) (unstuff 0 8 (slice 8 (a .end) (bitsOf (now (a .lent))))))
+    (walked 24 method6 width-6 (began (b .new2 .ensures .0)) (search needs) (c .before .before .ieee32 .ensures) (a .end) (unstuff 0 8 (slice 8 (a .end) (bitsOf (now (a .lent))))) (c .pass2 .ensures))
 
 pub walk-closed-spec : {M : Type 1} → statement M
 walk-closed-spec =
