@@ -1,10 +1,9 @@
 -- A character that is none of the seven signs is classed as other. Assumes nothing.
-use mathlib.Core.Path.{_≡_, ap, _∙_}
+use mathlib.Core.Path.{_≡_}
 use Prim.Native.Nat.{ℕ, _<_}
 use native.Mathlib.Omega.{arith}
-use lib.Bits.{bitXor, xor-self}
 use borrow.Author.Tests.{ne-eqb}
-use Rattle.block.specs.Signs.{SOH, STX, ETX, DLE, SYN, ETB, US, signOf, other, OffSigns}
+use Rattle.block.specs.Signs.{SOH, STX, ETX, DLE, SYN, ETB, US, signOf, other}
 
 -- what the arms of ranges know of a character: it is none of the signs, in the order of the arms
 abbrev pub NoSign : ℕ → Type 0
@@ -23,13 +22,6 @@ no-sign b h =
       ne-eqb b ETB (h .0 .1),
       ne-eqb b US (h .1),
     )
-
-off : (b sign : ℕ) → 0 < bitXor b sign → b ≡ sign → ⊥
-off b sign h e = omega (arith, ap (λ x. bitXor x sign) e ∙ xor-self sign)
-
-pub off-none : (b : ℕ) → OffSigns b → NoSign b
-off-none b h =
-    (((((((tt, off b SOH (h .soh)), off b STX (h .stx)), off b DLE (h .dle)), off b SYN (h .syn)), off b ETX (h .etx)), off b ETB (h .etb)), off b US (h .us))
 
 pub above-none : (b : ℕ) → US < b → NoSign b
 above-none b h =

@@ -1,8 +1,7 @@
 -- The seven signs (document 01, part 1; 003 calls them НЗ, НТ, КТ, АР1, СИН, КБ, РИ1). No other definition names their values.
 -- Assumes nothing.
-use Prim.Native.Nat.{ℕ, _<_}
+use Prim.Native.Nat.{ℕ}
 use mathlib.Core.Bool.{Bool, true, false, cond}
-use lib.Bits.{bitXor}
 use lib.Dec.{eqb}
 use Rattle.block.specs.declared.EndSign.{EndSign}
 use Rattle.block.specs.declared.EndSign.the-variants.{Etx, Etb, Us}
@@ -61,16 +60,6 @@ isDle syn = false
 isDle etb = false
 isDle us = false
 isDle other = false
-
--- a byte that differs from every sign, as code sees it
-pub record OffSigns (c : ℕ) : Type 0 where
-  pub soh : 0 < bitXor c SOH
-  pub stx : 0 < bitXor c STX
-  pub etx : 0 < bitXor c ETX
-  pub dle : 0 < bitXor c DLE
-  pub syn : 0 < bitXor c SYN
-  pub etb : 0 < bitXor c ETB
-  pub us : 0 < bitXor c US
 
 abbrev pub endByte : EndSign → ℕ
 endByte Etx = ETX

@@ -139,7 +139,5 @@ pub use signs::US;
 pub use signs::character;
 pub use signs::end_byte;
 pub use signs::is_seven;
-pub use signs::lesser;
-pub use signs::off_signs;
 pub use signs::parity_right;
 pub use signs::with_parity;

@@ -3,10 +3,9 @@ use crate::EndSign;
 use crate::Method;
 use crate::Parity;
 ghost use mathlib.Core.Path.{_≡_};
-ghost use Prim.Native.Nat.{_≤_, _<_};
 ghost use Rattle.bits.specs.Strings.{parity};
 ghost use Rattle.bits.specs.Bytes.{lowBits};
-ghost use Rattle.block.specs.Signs.{endByte, OffSigns};
+ghost use Rattle.block.specs.Signs.{endByte};
 ghost use Rattle.block.specs.Characters as rule;
 
 pub const SOH: u8 = 0x01;
@@ -25,21 +24,6 @@ pub const US: u8 = 0x1F;
 
 // What is above it is no sign: so is most of a text.
 pub const GREATEST_SIGN: u8 = US;
-
-pub fn lesser(a: u8, b: u8) -> u8
-    ensures { λ r. ⌜ (r ≤ a) × (r ≤ b) ⌝ }
-{
-    if a < b { a } else { b }
-}
-
-// 0 for a sign: how far a byte is off the nearest one, bit by bit. The compiler takes it for 16 bytes at once.
-pub fn off_signs(c: u8) -> u8
-    ensures { λ r. ⌜ (0 < r → OffSigns c) ⌝ }
-{
-    let low = lesser(lesser(c ^ SOH, c ^ STX), lesser(c ^ ETX, c ^ DLE));
-    let high = lesser(lesser(c ^ SYN, c ^ ETB), c ^ US);
-    lesser(low, high)
-}
 
 pub fn end_byte(e: EndSign) -> u8
     ensures { λ r. ⌜ r ≡ endByte e ⌝ }

@@ -2,20 +2,22 @@
 use mathlib.Core.Path.{_≡_, refl, sym, ap, ap₂, _∙_}
 use Prim.Native.Nat.{ℕ, zero, suc, _+_, _*_, _%_, _^_, _≤_, _<_}
 use native.Mathlib.Omega.{arith}
-use native.Mathlib.Nat.{lt-of-lt-of-le}
-use mathlib.Core.Bool.{Bool, cond, xor}
+use native.Mathlib.Nat.{lt-of-lt-of-le, mod-eq-of-lt}
+use mathlib.Core.Bool.{Bool, true, false, cond, not, xor}
 use mathlib.Core.List.{List, [], _∷_, _++_}
 use lib.Bits.{bitXor, xor-lt, xor-zero-r}
-use lib.Dec.{lit<}
+use lib.ListN.{length, length-map}
 use lib.Pow.{pow-mono}
 use Rattle.bits.specs.Strings.{xorBits, parity}
-use Rattle.bits.specs.Bytes.{lowBits, bitsOf}
+use Rattle.bits.specs.Bytes.{lowBits, bitsOf, value}
 use Rattle.bits.proofs.Strings.{xorBits-assoc}
-use Rattle.bits.proofs.Bytes.{lowBits-injective, lowBits-invert, lowBits-mod, lowBits-xor, lowBits-zero}
-use Rattle.cyclic.specs.Check.{method3, method4}
-use Rattle.cyclic.proofs.Methods.{width-3, width-4, all-ones}
+use Rattle.bits.proofs.Bytes.{lowBits-injective, lowBits-mod, lowBits-xor, lowBits-value, length-lowBits, value-lt, value-lowBits}
+use Rattle.cyclic.specs.Check.{Parameters, Constants, invertIf, checkBits, method3, method4}
+use Rattle.cyclic.specs.Laws.{OfWidth}
+use Rattle.cyclic.proofs.Methods.{width-3, width-4, began}
+use Rattle.generator16.specs.declared.Generator16.{Generator16}
 use Rattle.generator16.specs.declared.Generator16.the-variants.{Ccitt, Ibm}
-use Rattle.generator16.specs.Register.{registerAfter}
+use Rattle.generator16.specs.Register.{generatorOf, registerAfter}
 use Rattle.generator16.proofs.Registers.{after-append}
 use Rattle.block.specs.declared.Method.{Method}
 use Rattle.block.specs.declared.Method.the-variants as method
@@ -64,16 +66,36 @@ number-append method.Matrix n xs ys = xorAll-append n xs ys
 number-append method.Cyclic n xs ys = after-append Ccitt n xs ys
 number-append method.CyclicAlternative n xs ys = after-append Ibm n xs ys
 
+-- ---- the start of methods 3 and 4
+
+value-bits : (w : ℕ) (s : List Bool) → length s ≡ w → lowBits w (value s) ≡ s
+value-bits w s l = ap (λ n. lowBits n (value s)) (sym l) ∙ lowBits-value s
+
+length-invertIf : (i : Bool) (s : List Bool) → length (invertIf i s) ≡ length s
+length-invertIf true s = length-map s not
+length-invertIf false s = refl
+
+-- a register that began at a method's start holds its check
+from-start : (m : Parameters) → OfWidth 16 m → (g : Generator16) → generatorOf g ≡ m .generator → (bs : List ℕ)
+    → invertIf (m .inverted) (lowBits 16 (registerAfter g (value (m .start)) bs)) ≡ checkBits m (bitsOf bs)
+from-start m o g e bs =
+    let r = registerAfter g (value (m .start)) bs in
+    let sent = invertIf (m .inverted) (lowBits 16 r) in
+    let l : length sent ≡ 16 = length-invertIf (m .inverted) (lowBits 16 r) ∙ length-lowBits 16 r in
+    let k = value-bits 16 sent l in
+    sym k ∙ register-check m o g e bs (value sent) (value-bits 16 (m .start) (o .start-length)) (omega (arith, value-lt (m .start), ap (λ n. 2 ^ n) (o .start-length))) refl k
+
 pub check-after : (m : Method) (p : Parity) (bs : List ℕ) → checkFrom m p (numberAfter m (startOf m) bs) ≡ checkOf m p bs
 unfolding numberAfter checkFrom checkOf method3 method4
 check-after method.Parity p bs = refl
 check-after method.Matrix p bs = sym (matrix-character p bs)
-check-after method.Cyclic p bs =
-    let n = registerAfter Ccitt 65535 bs in
-    let e = lowBits-invert 16 n 65535 (all-ones 16) in
-    sym e ∙ register-check method3 width-3 Ccitt refl bs (bitXor n 65535) (all-ones 16) (lit< tt) refl e
-check-after method.CyclicAlternative p bs =
-    register-check method4 width-4 Ibm refl bs (registerAfter Ibm 0 bs) (lowBits-zero 16) (lit< tt) refl refl
+check-after method.Cyclic p bs = from-start method3 width-3 Ccitt refl bs
+check-after method.CyclicAlternative p bs = from-start method4 width-4 Ibm refl bs
+
+-- a new register's number is that of the method's start
+pub start-number : {m : Parameters} {register polynomial start limit : ℕ} → Constants m register 16 polynomial start limit → register < 2 ^ 16
+    → register ≡ value (m .start)
+start-number {register = r} k h = sym (mod-eq-of-lt h) ∙ sym (value-lowBits 16 r) ∙ ap value (began k)
 
 -- the character of a sum goes by its low bits
 pub withParity-low : (p : Parity) (n : ℕ) → withParity p (n % 256) ≡ withParity p n

@@ -2,7 +2,7 @@
 use Prim.Native.Nat.{ℕ}
 use mathlib.Core.Bool.{Bool}
 use mathlib.Core.List.{List, []}
-use Rattle.bits.specs.Bytes.{lowBits}
+use Rattle.bits.specs.Bytes.{lowBits, value}
 use Rattle.cyclic.specs.Check.{invertIf, method3, method4}
 use Rattle.generator16.specs.declared.Generator16.the-variants.{Ccitt, Ibm}
 use Rattle.generator16.specs.Register.{registerAfter}
@@ -12,12 +12,12 @@ use Rattle.block.specs.declared.Parity.{Parity}
 use Rattle.block.specs.Characters.{withParity}
 use Rattle.block.specs.Check.{xorAll}
 
--- before any byte
+-- before any byte: of methods 3 and 4 the number whose bits are the method's start
 abbrev pub startOf : Method → ℕ
 startOf method.Parity = 0
 startOf method.Matrix = 0
-startOf method.Cyclic = 65535
-startOf method.CyclicAlternative = 0
+startOf method.Cyclic = value (method3 .start)
+startOf method.CyclicAlternative = value (method4 .start)
 
 -- the sums of the matrix, the register of methods 3 and 4; the parity method adds up nothing
 unfoldable pub numberAfter : Method → ℕ → List ℕ → ℕ

@@ -23,8 +23,14 @@ pub fn start_of(m: Method) -> u16
     match m {
         Method::Parity => 0,
         Method::Matrix => 0,
-        Method::Cyclic => Cyclic3::START,
-        Method::CyclicAlternative => Cyclic4::START,
+        Method::Cyclic => {
+            let cyclic = Cyclic3::new();
+            cyclic.register
+        }
+        Method::CyclicAlternative => {
+            let cyclic = Cyclic4::new();
+            cyclic.register
+        }
     }
 }
 

@@ -43,11 +43,13 @@ pub fn is_check(m: Method, p: Parity, number: u16, received: &[u8]) -> bool
         Method::Parity => received.len() == 0,
         Method::Matrix => is_byte(with_parity(p, (number % 256) as u8), received),
         Method::Cyclic => {
-            let cyclic = Cyclic3 { register: number };
+            let mut cyclic = Cyclic3::new();
+            cyclic.register = number;
             is_sent(cyclic.check(), received)
         }
         Method::CyclicAlternative => {
-            let cyclic = Cyclic4 { register: number };
+            let mut cyclic = Cyclic4::new();
+            cyclic.register = number;
             is_sent(cyclic.check(), received)
         }
     }

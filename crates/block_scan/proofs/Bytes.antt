@@ -4,16 +4,17 @@ use Prim.Native.Nat.{ℕ, zero, suc, _≤_, _<_}
 use native.Mathlib.Omega.{arith}
 use mathlib.Core.Bool.{Bool, true, false, cond, not, _&&_, _||_}
 use mathlib.Core.List.{List, [], _∷_}
+use lib.Bits.{bitXor, xor-self}
 use lib.Dec.{eqb, ltb}
 use borrow.Author.Tests.{ltb-true, eqb-false, ne-eqb, not-true}
-use Rattle.block.specs.Signs.{SOH, STX, ETX, DLE, SYN, ETB, US, soh, stx, etx, dle, syn, etb, us, other, signOf, OffSigns}
+use Rattle.block.specs.Signs.{SOH, STX, ETX, DLE, SYN, ETB, US, soh, stx, etx, dle, syn, etb, us, other, signOf}
 use Rattle.block.specs.Characters.{character}
 use Rattle.block.specs.Write.{isOther, isFree}
 use Rattle.block.specs.Scan.{firstFailing}
-use Rattle.block.proofs.NoSign.{no-sign, off-none, above-none}
+use Rattle.block.proofs.NoSign.{NoSign, no-sign, above-none}
 use Rattle.block.proofs.Scans.{scan-same, both}
 use Rattle.block.proofs.SignTests.{dle-test}
-use Rattle.block_scan.specs.Tests.{isPlainByte, isClearByte}
+use Rattle.block_scan.specs.Tests.{isPlainByte, isClearByte, OffSigns}
 
 -- what differs from each of seven is none of them
 each-off : (a b c d e f g : Bool)
@@ -27,6 +28,13 @@ each-off false false false false true f g = refl
 each-off false false false false false true g = refl
 each-off false false false false false false true = refl
 each-off false false false false false false false = refl
+
+off : (b sign : ℕ) → 0 < bitXor b sign → b ≡ sign → ⊥
+off b sign h e = omega (arith, ap (λ x. bitXor x sign) e ∙ xor-self sign)
+
+off-none : (b : ℕ) → OffSigns b → NoSign b
+off-none b h =
+    (((((((tt, off b SOH (h .soh)), off b STX (h .stx)), off b DLE (h .dle)), off b SYN (h .syn)), off b ETX (h .etx)), off b ETB (h .etb)), off b US (h .us))
 
 positive : (n : ℕ) → (n ≡ 0 → ⊥) → 0 < n
 positive zero h = absurd (h refl)

@@ -3,6 +3,7 @@
 // byte. Each takes every input.
 mod clear;
 mod field;
+mod off;
 mod plain;
 
 pub use clear::clear_run;

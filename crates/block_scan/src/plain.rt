@@ -1,4 +1,6 @@
 // Runs of header and plain text.
+use crate::off::lesser;
+use crate::off::off_signs;
 use block::DLE;
 use block::ETB;
 use block::ETX;
@@ -8,8 +10,6 @@ use block::STX;
 use block::SYN;
 use block::US;
 use block::character;
-use block::lesser;
-use block::off_signs;
 ghost use mathlib.Core.Path.{_≡_};
 ghost use mathlib.Core.Bool.{true};
 ghost use Prim.Native.Nat.{_+_, _≤_};

@@ -27,6 +27,9 @@ is-byte-requires c κs = search needs
 enum-told-3 : tie.Need-enum-told-3
 enum-told-3 c = search needs
 
+new-requires : tie.Need-new-requires
+new-requires c κs = search needs
+
 check-requires : tie.Need-check-requires
 check-requires c κs = search needs
 
@@ -35,6 +38,9 @@ is-sent-requires c κs = search needs
 
 enum-told-4 : tie.Need-enum-told-4
 enum-told-4 c = search needs
+
+new-requires-2 : tie.Need-new-requires-2
+new-requires-2 c κs = search needs
 
 check-requires-2 : tie.Need-check-requires-2
 check-requires-2 c κs = search needs
@@ -56,14 +62,14 @@ returns-2 c =
 returns-3 : tie.Need-returns-3
 unfolding checkFrom
 returns-3 c =
-    let a = c .before .before .before .before .before .args in
-    rw (c .before .before .enum-told3 .given .1) (c .is-sent .ensures ∙ ap (same (bitsOf (a .received .now))) (c .before .check .ensures))
+    let a = c .before .before .before .before .before .before .args in
+    rw (c .before .before .before .enum-told3 .given .1) (c .is-sent .ensures ∙ ap (same (bitsOf (a .received .now))) (c .before .check .ensures))
 
 returns-4 : tie.Need-returns-4
 unfolding checkFrom
 returns-4 c =
-    let a = c .before .before .before .before .before .args in
-    rw (c .before .before .enum-told4 .given .1) (c .is-sent2 .ensures ∙ ap (same (bitsOf (a .received .now))) (c .before .check2 .ensures))
+    let a = c .before .before .before .before .before .before .args in
+    rw (c .before .before .before .enum-told4 .given .1) (c .is-sent2 .ensures ∙ ap (same (bitsOf (a .received .now))) (c .before .check2 .ensures))
 
 pub is-check-spec : {M : Type 1} → statement M
 is-check-spec =
@@ -75,9 +81,11 @@ is-check-spec =
     with-parity-requires
     is-byte-requires
     enum-told-3
+    new-requires
     check-requires
     is-sent-requires
     enum-told-4
+    new-requires-2
     check-requires-2
     is-sent-requires-2
     returns
