@@ -24,14 +24,12 @@ fn walk_closed(m: FrameMethod, lent: &[u8], end: usize) -> WalkEnd
 {
     match m {
         FrameMethod::Cyclic16 => {
-            let cyclic = Cyclic5::new();
             let table = ccitt16();
-            pass(&table, cyclic.register as u32, lent, end)
+            pass(&table, Cyclic5::START as u32, lent, end)
         }
         FrameMethod::Cyclic32 => {
-            let cyclic = Cyclic6::new();
             let table = ieee32();
-            pass(&table, cyclic.register, lent, end)
+            pass(&table, Cyclic6::START, lent, end)
         }
     }
 }
