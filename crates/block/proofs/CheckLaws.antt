@@ -23,6 +23,7 @@ use Rattle.cyclic.proofs.Methods.{check-of, width-3, width-4}
 use Rattle.block.specs.declared.Method.{Method}
 use Rattle.block.specs.declared.Method.the-variants as method
 use Rattle.block.specs.declared.Parity.{Parity}
+use Rattle.block.specs.declared.Parity.the-variants.{Even}
 use Rattle.block.specs.Characters.{isOdd, withParity}
 use Rattle.block.specs.Check.{columnSums, matrixCheck, checkOf, xorAll, checkLength}
 
@@ -86,12 +87,6 @@ matrix-character p bs =
 
 -- ---- lengths
 
-pub check-short : (m : Method) → checkLength m ≤ 2
-check-short method.Parity = omega arith
-check-short method.Matrix = omega arith
-check-short method.Cyclic = omega arith
-check-short method.CyclicAlternative = omega arith
-
 length-matrix : (p : Parity) (bs : List ℕ) → length (matrixCheck p bs) ≡ 8
 unfolding matrixCheck
 length-matrix p bs = length-append (columnSums bs) (xor (isOdd p) (parity (columnSums bs)) ∷ []) ∙ ap (λ n. n + 1) (length-sums bs)
@@ -105,9 +100,31 @@ packed s n h = length-pack s ∙ ap bytesFor h
 pub length-cyclic-check : (m : Parameters) → OfWidth 16 m → (bs : List ℕ) → length (pack (checkBits m (bitsOf bs))) ≡ 2
 length-cyclic-check m o bs = packed (checkBits m (bitsOf bs)) 16 (length-cyclic m o (bitsOf bs))
 
-pub length-check-of : (m : Method) (p : Parity) (bs : List ℕ) → length (pack (checkOf m p bs)) ≡ checkLength m
+abbrev pub checkBytes : Method → ℕ
+checkBytes method.Parity = 0
+checkBytes method.Matrix = 1
+checkBytes method.Cyclic = 2
+checkBytes method.CyclicAlternative = 2
+
+length-packed : (m : Method) (p : Parity) (bs : List ℕ) → length (pack (checkOf m p bs)) ≡ checkBytes m
 unfolding checkOf
-length-check-of method.Parity p bs = packed [] 0 refl
-length-check-of method.Matrix p bs = packed (matrixCheck p bs) 8 (length-matrix p bs)
-length-check-of method.Cyclic p bs = length-cyclic-check method3 width-3 bs
-length-check-of method.CyclicAlternative p bs = length-cyclic-check method4 width-4 bs
+length-packed method.Parity p bs = packed [] 0 refl
+length-packed method.Matrix p bs = packed (matrixCheck p bs) 8 (length-matrix p bs)
+length-packed method.Cyclic p bs = length-cyclic-check method3 width-3 bs
+length-packed method.CyclicAlternative p bs = length-cyclic-check method4 width-4 bs
+
+pub check-length : (m : Method) → checkLength m ≡ checkBytes m
+unfolding checkLength
+check-length m = length-packed m Even []
+
+pub length-check-of : (m : Method) (p : Parity) (bs : List ℕ) → length (pack (checkOf m p bs)) ≡ checkLength m
+length-check-of m p bs = length-packed m p bs ∙ sym (check-length m)
+
+pub check-short : (m : Method) → checkLength m ≤ 2
+check-short m = go m (check-length m)
+  where
+    go : (m : Method) {n : ℕ} → n ≡ checkBytes m → n ≤ 2
+    go method.Parity e = omega arith
+    go method.Matrix e = omega arith
+    go method.Cyclic e = omega arith
+    go method.CyclicAlternative e = omega arith

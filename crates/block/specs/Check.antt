@@ -3,12 +3,14 @@ use Prim.Native.Nat.{ℕ}
 use mathlib.Core.Bool.{Bool, xor}
 use mathlib.Core.List.{List, [], _∷_, _++_}
 use lib.Bits.{bitXor}
+use lib.ListN.{length}
 use Rattle.bits.specs.Strings.{xorBits, zeros, parity}
-use Rattle.bits.specs.Bytes.{lowBits, bitsOf}
+use Rattle.bits.specs.Bytes.{lowBits, bitsOf, pack}
 use Rattle.cyclic.specs.Check.{checkBits, method3, method4}
 use Rattle.block.specs.declared.Method.{Method}
 use Rattle.block.specs.declared.Method.the-variants as method
 use Rattle.block.specs.declared.Parity.{Parity}
+use Rattle.block.specs.declared.Parity.the-variants.{Even}
 use Rattle.block.specs.Characters.{isOdd}
 
 -- of each of the seven low bits, its sum modulo 2 over the bytes: formula (3), 000 par. 5
@@ -31,9 +33,6 @@ unfoldable pub xorAll : ℕ → List ℕ → ℕ
 xorAll sum [] = sum
 xorAll sum (b ∷ bs) = xorAll (bitXor sum b) bs
 
--- the bytes of its check
-abbrev pub checkLength : Method → ℕ
-checkLength method.Parity = 0
-checkLength method.Matrix = 1
-checkLength method.Cyclic = 2
-checkLength method.CyclicAlternative = 2
+-- the bytes of a method's check: every one has as many as that of no bytes
+unfoldable pub checkLength : Method → ℕ
+checkLength m = length (pack (checkOf m Even []))

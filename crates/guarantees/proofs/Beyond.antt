@@ -11,6 +11,7 @@ use Rattle.block.specs.declared.Method.{Method}
 use Rattle.block.specs.declared.Method.the-variants as method
 use Rattle.block.specs.declared.Parity.{Parity}
 use Rattle.block.specs.Check.{checkLength}
+use Rattle.block.proofs.CheckLaws.{check-length}
 use Rattle.block.specs.Read.{Parts}
 use Rattle.frame.specs.Frame.{width}
 use Rattle.guarantees.specs.Blocks.{blocks}
@@ -49,7 +50,7 @@ pub beyond-the-owner : BeyondTheOwner
 beyond-the-owner =
     record {
       distance-16 = distance-16;
-      distance-3 = λ p. distance-blocks method.Cyclic p _ refl (omega arith) (distance-16 (method-3 p) tt);
-      distance-4 = λ p. distance-blocks method.CyclicAlternative p _ refl (omega arith) (distance-16 (method-4 p) tt);
+      distance-3 = λ p. distance-blocks method.Cyclic p _ (check-length method.Cyclic) (omega arith) (distance-16 (method-3 p) tt);
+      distance-4 = λ p. distance-blocks method.CyclicAlternative p _ (check-length method.CyclicAlternative) (omega arith) (distance-16 (method-4 p) tt);
       distance-5 = distance-frames;
     }

@@ -10,7 +10,7 @@ use Rattle.number.specs.Number.{difference, verdictFor, receiving}
 use Rattle.number.specs.History.{history}
 use Rattle.block.specs.Signs.{signOf}
 use Rattle.block.specs.Characters.{character, parityRight}
-use Rattle.block.specs.Check.{columnSums, matrixCheck, checkOf}
+use Rattle.block.specs.Check.{columnSums, matrixCheck, checkOf, checkLength}
 use Rattle.block.specs.Read.{framed, framingOf, readBlock}
 use Rattle.frame.specs.Stuffing.{isFifth, runOn, stuff, unstuff}
 use Rattle.frame.specs.Frame.{flag, enclose, frameOf}
@@ -19,5 +19,5 @@ use Rattle.frame.specs.Write.{writeFrame}
 use Rattle.guarantees.specs.Rows.{resultOf, rows, results}
 
 pub starred-rows : map resultOf rows ≡ results
-unfolding lowBits bitsOf value packInto pack divide remainder ccitt16 ibm16 formula checkBits checkedBits method3 method4 method5 difference verdictFor receiving history signOf character parityRight columnSums matrixCheck checkOf framed framingOf readBlock isFifth runOn stuff unstuff flag enclose frameOf frame-reading.framed writeFrame xor
+unfolding lowBits bitsOf value packInto pack divide remainder ccitt16 ibm16 formula checkBits checkedBits method3 method4 method5 difference verdictFor receiving history signOf character parityRight columnSums matrixCheck checkOf checkLength framed framingOf readBlock isFifth runOn stuff unstuff flag enclose frameOf frame-reading.framed writeFrame xor
 starred-rows = refl

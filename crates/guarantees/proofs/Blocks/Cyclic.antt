@@ -15,6 +15,7 @@ use Rattle.block.specs.declared.Parity.{Parity}
 use Rattle.block.specs.Characters.{isSeven}
 use Rattle.block.specs.Marks.{counted, checkBytes}
 use Rattle.block.specs.Check.{checkOf, checkLength}
+use Rattle.block.proofs.CheckLaws as check-bytes
 use Rattle.block.specs.Read.{Framed, found, unframed, framed, askCheck, readBlock}
 use Rattle.guarantees.specs.Blocks.{Accepted, checkedBits, blocks}
 use Rattle.guarantees.proofs.Lines.Masks.{length-checked}
@@ -65,11 +66,11 @@ module _ (m : Method) (k : Parameters) (rule : (p : Parity) (bs : List ℕ) → 
 
 pub cyclic-pairs-3 : (p : Parity) → CyclicPairs method3 16 (blocks method.Cyclic p)
 unfolding checkOf method3
-cyclic-pairs-3 = cyclic-pairs method.Cyclic method3 (λ p bs. refl) refl refl
+cyclic-pairs-3 = cyclic-pairs method.Cyclic method3 (λ p bs. refl) (check-bytes.check-length method.Cyclic) refl
 
 pub cyclic-pairs-4 : (p : Parity) → CyclicPairs method4 16 (blocks method.CyclicAlternative p)
 unfolding checkOf method4
-cyclic-pairs-4 = cyclic-pairs method.CyclicAlternative method4 (λ p bs. refl) refl refl
+cyclic-pairs-4 = cyclic-pairs method.CyclicAlternative method4 (λ p bs. refl) (check-bytes.check-length method.CyclicAlternative) refl
 
 -- ---- the parity setting is without effect
 

@@ -17,7 +17,7 @@ use Rattle.block.specs.declared.Mark.{Mark}
 use Rattle.block.specs.Characters.{isOdd}
 use Rattle.block.specs.Marks.{isCounted, sift, counted, checkBytes}
 use Rattle.block.specs.Check.{columnSums, matrixCheck, checkOf}
-use Rattle.block.proofs.CheckLaws.{length-sums}
+use Rattle.block.proofs.CheckLaws.{length-sums, check-length}
 use Rattle.block.proofs.Passed.{ParitiesRight}
 use Rattle.guarantees.specs.Lines.{TwoAccepted, distance, AtLeast, NoBurst}
 use Rattle.guarantees.specs.Blocks.{Accepted, checkedBits, blocks}
@@ -102,7 +102,7 @@ module _ (p : Parity) (line : List ℕ) (r : Found method.Matrix p line) where
   unfolding checkOf
   checked-zero acc =
       sums-zero p (counted (r .marks) line) (checkBytes (r .marks) line)
-      (length-drop (length (r .marks)) line ∙ omega (arith, all-passed method.Matrix p line r .closes))
+      (length-drop (length (r .marks)) line ∙ omega (arith, all-passed method.Matrix p line r .closes, check-length method.Matrix))
       (accepted-right method.Matrix p line r .0 acc)
 
   checked-length : length (checkedBits method.Matrix p line) ≡ 8 * length checked

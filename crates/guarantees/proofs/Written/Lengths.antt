@@ -22,9 +22,9 @@ use Rattle.block.specs.declared.Shape.the-variants as shape
 use Rattle.block.specs.declared.EndSign.{EndSign}
 use Rattle.block.specs.Signs.{DLE}
 use Rattle.block.specs.Characters.{withParity}
-use Rattle.block.specs.Check.{checkOf, checkLength, xorAll}
+use Rattle.block.specs.Check.{checkOf, xorAll}
 use Rattle.block.specs.Write.{isClear, startSigns, countedBytes, countedLength}
-use Rattle.block.proofs.CheckLaws.{matrix-character}
+use Rattle.block.proofs.CheckLaws.{matrix-character, checkBytes}
 use Rattle.guarantees.proofs.Written.Walk.{marksOf, markedTwice, markedClear}
 use Rattle.guarantees.proofs.Written.Line.{markedText, markedLine}
 
@@ -33,7 +33,7 @@ use Rattle.guarantees.proofs.Written.Line.{markedText, markedLine}
 length-cyclic : (m : Parameters) → OfWidth 16 m → (c : List Bool) → length (checkBits m c) ≡ 16
 length-cyclic m o c = length-check m (o .start-length ∙ sym (o .generator .width)) c ∙ o .generator .width
 
-length-bits : (m : Method) (p : Parity) (bs : List ℕ) → length (checkOf m p bs) ≡ 8 * checkLength m
+length-bits : (m : Method) (p : Parity) (bs : List ℕ) → length (checkOf m p bs) ≡ 8 * checkBytes m
 unfolding checkOf
 length-bits method.Parity p bs = refl
 length-bits method.Matrix p bs = ap length (matrix-character p bs) ∙ length-lowBits 8 (withParity p (xorAll 0 bs))
