@@ -22,7 +22,7 @@ returns c =
     no-framing (a .method) (a .parity) (a .line .now) (a .out .now) (c .before .before .before .find-framing .ensures) (c .before .r .given .1)
 
 same-length : tie.Need-same-length
-same-length c = search needs
+same-length c = c .before .before .read-framed .kept .1 .1 .1 .1 .0
 
 returns-2 : tie.Need-returns-2
 returns-2 c = c .before .before .read-framed .ensures
