@@ -26,7 +26,3 @@ pub record Run (P : ℕ → Type 0) (size from end : ℕ) : Type 0 where
   pub within : end ≤ size
   pub all : (k : ℕ) → from ≤ k → k < end → P k
 
--- a run of a segment whose bytes are kept: none behind a DLE
-pub record KeptRun (clear seven behind : Bool) (part : List ℕ) (from end : ℕ) : Type 0 where
-  pub run : Run (λ k. isKept clear seven false (getD part k 0) ≡ true) (length part) from end
-  pub none : behind ≡ true → end ≡ from

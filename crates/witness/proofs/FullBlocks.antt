@@ -6,7 +6,7 @@ use native.Mathlib.Omega.{arith}
 use mathlib.Core.Bool.{xor}
 use mathlib.Core.List.{List, [], _∷_, _++_}
 use lib.ListN.{length, getD, replicate}
-use Rattle.bits.specs.Bytes.{lowBits, bitsOf, Bytes}
+use Rattle.bits.specs.Bytes.{lowBits, bitsOf, value, packInto, pack, Bytes}
 use Rattle.bits.proofs.Bytes.{bytes-append}
 use Rattle.division.specs.Division.{divide, remainder}
 use Rattle.division.specs.Generators.{ccitt16}
@@ -20,7 +20,7 @@ use Rattle.block.specs.declared.Parity.the-variants.{Even}
 use Rattle.block.specs.Signs.{signOf}
 use Rattle.block.specs.Characters.{character}
 use Rattle.block.specs.Marks.{counted}
-use Rattle.block.specs.Check.{checkOf}
+use Rattle.block.specs.Check.{checkOf, checkLength}
 use Rattle.block.specs.Read.{found, framed, framingOf}
 use Rattle.guarantees.specs.Lines.{SameFraming, TwoAccepted, distance, differingChecked}
 use Rattle.guarantees.specs.Blocks.{Accepted, checkedBits, blocks}
@@ -50,7 +50,7 @@ abbrev marks : List Mark
 marks = LeftOut ∷ (replicate 4095 TextByte ++ (End ∷ []))
 
 framed-first : framed method.Cyclic Even first ≡ found marks Text Etx
-unfolding signOf character framed
+unfolding signOf character framed checkLength checkOf checkBits formula method3 divide remainder ccitt16 pack packInto value lowBits bitsOf xor
 framed-first = refl
 
 -- as many as a block may count
@@ -68,7 +68,7 @@ pub accepted-first : Accepted method.Cyclic Even first
 accepted-first = accepted-right method.Cyclic Even first found-first .1 right-first
 
 one-framing : framingOf method.Cyclic Even first ≡ framingOf method.Cyclic Even second
-unfolding signOf character framed framingOf
+unfolding signOf character framed framingOf checkLength checkOf checkBits formula method3 divide remainder ccitt16 pack packInto value lowBits bitsOf xor
 one-framing = refl
 
 pub same-framing : SameFraming (blocks method.Cyclic Even) first second
@@ -82,7 +82,7 @@ same-framing =
 
 -- the two checked bits in which they differ
 pub differ-apart : differingChecked (blocks method.Cyclic Even) first second ≡ 1 ∷ 32768 ∷ []
-unfolding lowBits bitsOf signOf character framed checkedBits xor
+unfolding signOf character framed checkedBits checkLength checkOf checkBits formula method3 divide remainder ccitt16 pack packInto value lowBits bitsOf xor
 differ-apart = refl
 
 pub full-pair : TwoAccepted (blocks method.Cyclic Even) first second

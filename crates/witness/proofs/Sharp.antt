@@ -6,7 +6,7 @@ use mathlib.Core.Bool.{Bool, xor}
 use mathlib.Core.List.{List, [], _∷_, _++_}
 use lib.ListN.{length, replicate}
 use Rattle.bits.specs.Strings.{weight}
-use Rattle.bits.specs.Bytes.{lowBits, bitsOf, Bytes}
+use Rattle.bits.specs.Bytes.{lowBits, bitsOf, value, packInto, pack, Bytes}
 use Rattle.bits.specs.Differences.{Each}
 use Rattle.bits.proofs.Strings.{xorBits-self, weight-zeros}
 use Rattle.bits.proofs.Differences.{length-differing, each-map}
@@ -24,7 +24,7 @@ use Rattle.block.specs.declared.Mark.the-variants.{LeftOut, TextByte, End}
 use Rattle.block.specs.declared.Field.the-variants.{Text}
 use Rattle.block.specs.Signs.{signOf}
 use Rattle.block.specs.Characters.{character, parityRight}
-use Rattle.block.specs.Check.{columnSums, matrixCheck, checkOf}
+use Rattle.block.specs.Check.{columnSums, matrixCheck, checkOf, checkLength}
 use Rattle.block.specs.Read.{found, framed, framingOf}
 use Rattle.frame.specs.Stuffing.{isFifth, runOn, stuff, unstuff, behindFive}
 use Rattle.frame.specs.Frame.{flag, enclose, frameOf}
@@ -87,7 +87,7 @@ module _ (m : Method) (p : Parity) (n : ℕ) where
 
 -- two bits of one character
 parity-pair : (p : Parity) → DifferInJust 2 (linesOf (method-1 p))
-unfolding framed framingOf parityRight character signOf checkOf lowBits bitsOf xor
+unfolding framed framingOf parityRight character signOf checkOf checkLength pack packInto value lowBits bitsOf xor
 parity-pair Even =
     record {
       A = 0x82 ∷ 0x41 ∷ 0x03 ∷ [];
@@ -105,7 +105,7 @@ parity-pair Odd =
 
 -- rows 1 and 5 of document 01; row 2 with its character and check exchanged
 matrix-pair : (p : Parity) → DifferInJust 4 (linesOf (method-2 p))
-unfolding framed framingOf parityRight character signOf checkOf matrixCheck columnSums lowBits bitsOf xor
+unfolding framed framingOf parityRight character signOf checkOf checkLength pack packInto value matrixCheck columnSums lowBits bitsOf xor
 matrix-pair Even =
     record {
       A = 0x82 ∷ 0x41 ∷ 0x03 ∷ 0x42 ∷ [];
@@ -123,7 +123,7 @@ matrix-pair Odd =
 
 -- two characters exchanged
 exchanged-pair : (p : Parity) → DifferInBurst 10 (linesOf (method-2 p))
-unfolding framed framingOf checkedBits parityRight character signOf checkOf matrixCheck columnSums lowBits bitsOf xor
+unfolding framed framingOf checkedBits parityRight character signOf checkOf checkLength pack packInto value matrixCheck columnSums lowBits bitsOf xor
 exchanged-pair Even =
     in-burst (third-property .burst-matrix Even)
     (text-pair method.Matrix Even 2 (0x82 ∷ 0x41 ∷ 0x42 ∷ 0x03 ∷ 0x00 ∷ []) (0x82 ∷ 0x42 ∷ 0x41 ∷ 0x03 ∷ 0x00 ∷ [])
@@ -135,14 +135,14 @@ exchanged-pair Odd =
 
 -- texts that differ by the generator: x^16 + x^12 + x^5 + 1, and x^16 + x^15 + x^2 + 1
 burst-3 : (p : Parity) → DifferInBurst 17 (linesOf (method-3 p))
-unfolding framed framingOf checkedBits character signOf checkOf checkBits formula method3 ccitt16 remainder divide lowBits bitsOf xor
+unfolding framed framingOf checkedBits character signOf checkOf checkLength pack packInto value checkBits formula method3 ccitt16 remainder divide lowBits bitsOf xor
 burst-3 p =
     in-burst (third-property .burst-16 (method-3 p) tt)
     (text-pair method.Cyclic p 3 (0x02 ∷ 0x44 ∷ 0x44 ∷ 0x44 ∷ 0x03 ∷ 0x0F ∷ 0xEE ∷ []) (0x02 ∷ 0x55 ∷ 0x4C ∷ 0x45 ∷ 0x03 ∷ 0x0F ∷ 0xEE ∷ [])
     (omega arith) refl refl (refl, refl) (refl, refl) refl) {ns = 0 ∷ 4 ∷ 11 ∷ 16 ∷ []} refl (omega arith)
 
 burst-4 : (p : Parity) → DifferInBurst 17 (linesOf (method-4 p))
-unfolding framed framingOf checkedBits character signOf checkOf checkBits formula method4 ibm16 remainder divide lowBits bitsOf xor
+unfolding framed framingOf checkedBits character signOf checkOf checkLength pack packInto value checkBits formula method4 ibm16 remainder divide lowBits bitsOf xor
 burst-4 p =
     in-burst (third-property .burst-16 (method-4 p) tt)
     (text-pair method.CyclicAlternative p 3 (0x02 ∷ 0x44 ∷ 0x71 ∷ 0x44 ∷ 0x03 ∷ 0x37 ∷ 0xEA ∷ [])
