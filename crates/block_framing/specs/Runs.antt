@@ -25,4 +25,3 @@ pub record Run (P : ℕ → Type 0) (size from end : ℕ) : Type 0 where
   pub on : from ≤ end
   pub within : end ≤ size
   pub all : (k : ℕ) → from ≤ k → k < end → P k
-
