@@ -8,3 +8,4 @@ pub mod Passed
 pub mod Start
 pub mod Scans
 pub mod SignTests
+pub mod Walks

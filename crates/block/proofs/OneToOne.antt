@@ -53,9 +53,10 @@ readRefusalFrom n v =
     (cond (eqb n 13) reading.NoStart
     (cond (eqb n 14) (reading.OutOfPlace (record { 0 = v }))
     (cond (eqb n 15) reading.NoEnd
-    (cond (eqb n 16) (reading.CheckLength (record { 0 = v }))
+    (cond (eqb n 52) (reading.CheckShort (record { 0 = v }))
+    (cond (eqb n 53) (reading.CheckLong (record { 0 = v }))
     (cond (eqb n 17) reading.TooManyCounted
-    (cond (eqb n 18) reading.WrongCheck (reading.OutputShort v))))))))
+    (cond (eqb n 18) reading.WrongCheck (reading.OutputShort v)))))))))
 
 read-refusal-back : (r : ReadRefusal) → readRefusalFrom (readNumber r) (readValue r) ≡ r
 unfolding readRefusalFrom
@@ -64,7 +65,8 @@ read-refusal-back (reading.WrongParity at) = refl
 read-refusal-back reading.NoStart = refl
 read-refusal-back (reading.OutOfPlace at) = refl
 read-refusal-back reading.NoEnd = refl
-read-refusal-back (reading.CheckLength at) = refl
+read-refusal-back (reading.CheckShort at) = refl
+read-refusal-back (reading.CheckLong at) = refl
 read-refusal-back reading.TooManyCounted = refl
 read-refusal-back reading.WrongCheck = refl
 read-refusal-back (reading.OutputShort needed) = refl

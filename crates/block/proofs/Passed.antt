@@ -1,12 +1,12 @@
--- What a line with a framing has passed: questions 11 to 17, read off the rule. Assumes nothing.
+-- What a line with a framing has passed: the questions up to 17, read off the rule. Assumes nothing.
 use mathlib.Core.Path.{_≡_, refl, sym, ap, ap₂, subst, _∙_}
 use Prim.Native.Nat.{ℕ, _+_, _≤_}
 use native.Mathlib.Omega.{arith}
 use mathlib.Core.Bool.{Bool, true, false, Bool·beq, cond, true≢false}
 use mathlib.Core.List.{List, [], _∷_}
-use lib.Dec.{leb, eqb}
+use lib.Dec.{leb}
 use lib.ListN.{length}
-use borrow.Author.Tests.{eqb-true, leb-true}
+use borrow.Author.Tests.{leb-true}
 use Rattle.bits.proofs.Tests.{ask-passed}
 use Rattle.bits.specs.Strings.{parity}
 use Rattle.bits.specs.Bytes.{lowBits}
@@ -68,13 +68,16 @@ module _ {ks : List Mark} {f : Field} {e : EndSign} where
           absurd (let z : _≡_ {A = ℕ} 0 1 = cc in omega arith)
       go (ended g d) r =
           let c = sym (ap (askEnd m line (w .marks)) r) ∙ q in
-          let a = ask-passed (eqb (length line) (length (w .marks) + checkLength m)) not-found c in
+          let enough = ask-passed (leb (length (w .marks) + checkLength m) (length line)) not-found c in
+          let a = ask-passed (leb (length line) (length (w .marks) + checkLength m)) not-found (enough .1) in
           let b = ask-passed (leb (length (counted (w .marks) line)) 4096) not-found (a .1) in
           let k : found (w .marks) g d ≡ found ks f e = b .1 in
+          let needed = length (w .marks) + checkLength m in
+          let closes : length line ≡ needed = omega (arith, leb-true needed (length line) (enough .0), leb-true (length line) needed (a .0)) in
           let x : w .marks ≡ ks = cc in
           let y : ended g d ≡ ended f e = cc in (
             ap₂ (λ (i : List Mark) (j : Stop). record { marks = i; stop = j }) x (r ∙ y),
-            subst (λ (i : List Mark). length line ≡ length i + checkLength m) x (eqb-true _ _ (a .0)),
+            subst (λ (i : List Mark). length line ≡ length i + checkLength m) x closes,
             subst (λ (i : List Mark). length (counted i line) ≤ 4096) x (leb-true _ _ (b .0)),
           )
 

@@ -1,8 +1,8 @@
--- Reading a block: questions 11 to 19 in turn (document 01, "Questions before a line is taken"). Assumes nothing.
+-- Reading a block: questions 11 to 15, 52, 53 and 17 to 19 in turn (document 01, "Questions before a line is taken"; document 02, card 3). Assumes nothing.
 use Prim.Native.Nat.{ℕ, _+_}
 use mathlib.Core.Bool.{Bool, cond}
 use mathlib.Core.List.{List, [], _∷_, _++_}
-use lib.Dec.{leb, eqb}
+use lib.Dec.{leb}
 use lib.ListN.{length, drop}
 use Rattle.bits.specs.Strings.{same}
 use Rattle.bits.specs.Bytes.{bitsOf}
@@ -32,24 +32,25 @@ abbrev pub askParities : Parity → List ℕ → ℕ → Framed → Framed
 askParities p [] at next = next
 askParities p (b ∷ rest) at next = ask (parityRight p b) 12 at (askParities p rest (at + 1) next)
 
--- 13 to 15 are the walk's; 16 and 17 follow
+-- 13 to 15 are the walk's; 52, 53 and 17 follow: fewer bytes behind the end sign than the check has, or more
 abbrev pub askEnd : Method → List ℕ → List Mark → Stop → Framed
 askEnd m line ks (refused number value) = unframed number value
 askEnd m line ks (ended f e) =
-    ask (eqb (length line) (length ks + checkLength m)) 16 (length ks)
+    ask (leb (length ks + checkLength m) (length line)) 52 (length ks)
+    (ask (leb (length line) (length ks + checkLength m)) 53 (length ks)
     (ask (leb (length (counted ks line)) 4096) 17 0
-    (found ks f e))
+    (found ks f e)))
 
 abbrev pub askWalk : Method → List ℕ → Walked → Framed
 askWalk m line w = askEnd m line (w .marks) (w .stop)
 
--- 11 to 17
+-- 11 to 15, 52, 53 and 17
 unfoldable pub framed : Method → Parity → List ℕ → Framed
 framed m p line =
     ask (leb (length line) 16384) 11 0
     (cond (isSeven m) (askParities p line 0 (askWalk m line (walk (isSeven m) line 0 Start))) (askWalk m line (walk (isSeven m) line 0 Start)))
 
--- a line has a framing where 11 to 17 are all passed
+-- a line has a framing where all of these are passed
 pub data Framing : Type 0 where
   none : Framing
   framing : List LeftOutByte → Framing

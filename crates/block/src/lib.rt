@@ -55,8 +55,10 @@ pub enum ReadRefusal {
     OutOfPlace(BytePlace),
     // 15
     NoEnd,
-    // 16: the place after the end sign
-    CheckLength(BytePlace),
+    // 52: fewer bytes than the check has; the place after the end sign
+    CheckShort(BytePlace),
+    // 53: more bytes; the same place
+    CheckLong(BytePlace),
     // 17: more than 4,096
     TooManyCounted,
     // 18

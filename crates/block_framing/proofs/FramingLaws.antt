@@ -336,19 +336,3 @@ pub tally-counts : (ks : List Mark) (line : List ℕ) → length ks ≤ length l
 tally-counts ks line h =
     let p : Counted noTally 0 ks line = counted-from noTally 0 ks line h in
     record { headers = omega (arith, p .headers); texts = omega (arith, p .texts); counts = omega (arith, p .counts) }
-
--- ---- the marks stand within the line
-
-within-step : (n : ℕ) (go : Field → Walked) → ((g : Field) → length (go g .marks) ≤ n) → (f : Field) (at : ℕ) (j : Judged)
-    → length (onward go f at j .marks) ≤ n + 1
-within-step n go ih f at (Is k g) = omega (arith, ih g)
-within-step n go ih f at (Ends e) = omega arith
-within-step n go ih f at NoStart = omega arith
-within-step n go ih f at OutOfPlace = omega arith
-within-step n go ih f at DleOutOfPlace = omega arith
-
-pub marks-within : (seven : Bool) (line : List ℕ) (at : ℕ) (f : Field) → length (walk seven line at f .marks) ≤ length line
-marks-within seven [] at f = omega arith
-marks-within seven (b ∷ rest) at f =
-    let j : Judged = judge seven f (signOf (character seven b)) in
-    omega (arith, within-step (length rest) (walk seven rest (at + 1)) (marks-within seven rest (at + 1)) f at j)

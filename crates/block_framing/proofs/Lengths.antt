@@ -19,12 +19,13 @@ use Rattle.block.specs.Walk.{ended, walk}
 use Rattle.block.specs.Marks.{isHeader, sift}
 use Rattle.block.specs.Write.{isClear}
 use Rattle.block_end.specs.Ends.{textSigns, shapeAt}
+use Rattle.block.proofs.Walks.{marks-within}
 use Rattle.block_framing.specs.declared.LeftOuts.{LeftOuts}
 use Rattle.block_framing.specs.declared.Segments.{Segments}
 use Rattle.block_framing.specs.Framings.{Tally, noTally, firstOf, addMark, tallied, startOf, segments, framingAt, keptBytes, headerIn, textIn, countedIn, Segmented}
 use Rattle.block_framing.specs.Walks.{noLeftOuts, leave, leaves, numbers, segmentsAt}
 use Rattle.block_framing.proofs.HeaderWalk.{inner-kept, Kind, header-alone, header-plain, header-clear, Line, plain, clear, headed, filled, line-of}
-use Rattle.block_framing.proofs.FramingLaws.{segmented, Tallied, tally-counts, marks-within}
+use Rattle.block_framing.proofs.FramingLaws.{segmented, Tallied, tally-counts}
 
 positive : (n : ℕ) → (n ≡ 0 → ⊥) → 0 < n
 positive zero h = absurd (h refl)

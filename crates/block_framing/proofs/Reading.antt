@@ -1,5 +1,5 @@
 -- Reading, question by question: what each answer on the way leaves to the rule. Assumes nothing.
-use mathlib.Core.Path.{_≡_, refl, sym, ap, subst, _∙_}
+use mathlib.Core.Path.{_≡_, refl, sym, ap, ap₂, subst, _∙_}
 use Prim.Native.Nat.{ℕ, zero, suc, _+_, _-_, _≤_, _<_}
 use native.Mathlib.Nat.{add-zero, zero-add}
 use native.Mathlib.Omega.{arith}
@@ -11,7 +11,7 @@ use Prim.Native.Nat.{zero, suc}
 use native.Mathlib.Nat.{add-zero}
 use mathlib.Core.Path.{subst}
 use lib.Seq.{slice}
-use borrow.Author.Tests.{eq-eqb, ne-eqb, le-leb, lt-leb}
+use borrow.Author.Tests.{le-leb, lt-leb}
 use Rattle.block.specs.declared.Method.{Method}
 use Rattle.block.specs.declared.ReadRefusal.{ReadRefusal}
 use Rattle.block.specs.declared.Parity.{Parity}
@@ -28,6 +28,7 @@ use Rattle.block.specs.Scan.{firstFailing}
 use Rattle.block.specs.Read.{Framed, found, unframed, askParities, askEnd, askWalk}
 use Rattle.block.specs.Read as rule
 use Rattle.block.specs.Answers.{readNumber, readValue}
+use Rattle.block.proofs.Walks.{marks-within}
 use Rattle.block_framing.specs.declared.WalkEnd.{WalkEnd}
 use Rattle.block_framing.specs.declared.WalkEnd.the-variants as code
 use Rattle.block_framing.specs.declared.Segments.{Segments}
@@ -36,7 +37,7 @@ use Rattle.block_framing.specs.declared.LeftOuts.{LeftOuts}
 use Rattle.block_framing.specs.Walks.{noLeftOuts, leave, leaves, segmentsAt, stopped, answerAfter, walkAnswer}
 use Rattle.block_framing.proofs.Lengths.{segments-framing}
 use Rattle.block_end.specs.Ends.{textSigns}
-use Rattle.block_framing.proofs.FramingLaws.{tally-counts, marks-within}
+use Rattle.block_framing.proofs.FramingLaws.{tally-counts}
 
 -- ---- a part of a slice
 
@@ -156,7 +157,7 @@ framing-carries start Clear e t after = carries-segments _ e t after _ _ _ _
 framing-carries start Text e t after = carries-either (eqb (t .inner) 0) (carries-segments _ e t after _ _ _ _) (carries-segments _ e t after _ _ _ _)
 framing-carries start ClearDle e t after = carries-either (eqb (t .inner) 0) (carries-segments _ e t after _ _ _ _) (carries-segments _ e t after _ _ _ _)
 
--- ---- 16 and 17
+-- ---- 52, 53 and 17
 
 module _ (m : Method) (line : List ℕ) (r : Segments) (e : walkAnswer (startOf (isSeven m) line) noLeftOuts 0 (walk (isSeven m) line 0 Start) ≡ framed r) where
   abbrev w : Walked
@@ -179,27 +180,44 @@ module _ (m : Method) (line : List ℕ) (r : Segments) (e : walkAnswer (startOf 
   pub after-small : length line ≤ 16384 → r .after ≤ 16384
   after-small h = omega (arith, carried .behind, marks-within (isSeven m) line 0 Start)
 
-  -- the answers to 16 and 17
+  -- the answers to 52, 53 and 17
   by-count : Bool → Framed
   by-count t = rule.ask t 17 0 (found (w .marks) (by .field) (by .end))
 
-  by-length : Bool → Framed
-  by-length t = rule.ask t 16 (length (w .marks)) (by-count (leb (length (counted (w .marks) line)) 4096))
+  abbrev few : Bool
+  few = leb (length (counted (w .marks) line)) 4096
 
-  asked : askWalk m line w ≡ by-length (eqb (length line) (length (w .marks) + checkLength m))
+  by-length : Bool → Bool → Framed
+  by-length enough none-more = rule.ask enough 52 (length (w .marks)) (rule.ask none-more 53 (length (w .marks)) (by-count few))
+
+  abbrev closed : ℕ
+  closed = length (w .marks) + checkLength m
+
+  asked : askWalk m line w ≡ by-length (leb closed (length line)) (leb (length line) closed)
   unfolding by-length by-count
   asked = ap (askEnd m line (w .marks)) (by .stop)
 
-  pub wrong-length : (length line ≡ r .after + checkLength m → ⊥) → framedAnswer (isSeven m) line (askWalk m line w) ≡ refusal 16 (r .after)
+  closes : r .after + checkLength m ≡ closed
+  closes = ap (λ n. n + checkLength m) (carried .behind)
+
+  pub check-short-of : length line < r .after + checkLength m → framedAnswer (isSeven m) line (askWalk m line w) ≡ refusal 52 (r .after)
   unfolding by-length
-  wrong-length h =
-      let n = ne-eqb (length line) (length (w .marks) + checkLength m) (λ q. h (q ∙ ap (λ n. n + checkLength m) (sym (carried .behind)))) in
-      ap (framedAnswer (isSeven m) line) (asked ∙ ap by-length n) ∙ ap (refusal 16) (sym (carried .behind))
+  check-short-of h =
+      ap (framedAnswer (isSeven m) line) (asked ∙ ap (λ t. by-length t (leb (length line) closed)) (lt-leb closed (length line) (omega (arith, closes))))
+      ∙ ap (refusal 52) (sym (carried .behind))
+
+  pub check-long-of : r .after + checkLength m < length line → framedAnswer (isSeven m) line (askWalk m line w) ≡ refusal 53 (r .after)
+  unfolding by-length
+  check-long-of h =
+      ap (framedAnswer (isSeven m) line)
+      (asked ∙ ap₂ by-length (le-leb closed (length line) (omega (arith, closes))) (lt-leb (length line) closed (omega (arith, closes))))
+      ∙ ap (refusal 53) (sym (carried .behind))
 
   module _ (h : length line ≡ r .after + checkLength m) where
-    right-length : askWalk m line w ≡ by-count (leb (length (counted (w .marks) line)) 4096)
+    right-length : askWalk m line w ≡ by-count few
     unfolding by-length
-    right-length = asked ∙ ap by-length (eq-eqb (length line) (length (w .marks) + checkLength m) (h ∙ ap (λ n. n + checkLength m) (carried .behind)))
+    right-length =
+        asked ∙ ap₂ by-length (le-leb closed (length line) (omega (arith, closes))) (le-leb (length line) closed (omega (arith, closes)))
 
     pub too-many : 4096 < r .counted → framedAnswer (isSeven m) line (askWalk m line w) ≡ refusal 17 0
     unfolding by-count

@@ -106,7 +106,7 @@ abbrev pub ofWalk : WalkEnd → WalkAnswer
 ofWalk (code.Found f) = framed f
 ofWalk (code.Refused r) = refusal (readNumber r) (readValue r)
 
--- the answer for a line that passed 11 to 17
+-- the answer for a line that passed the questions up to 17
 abbrev pub framedAnswer : Bool → List ℕ → Framed → WalkAnswer
 framedAnswer seven line (found ks f e) = framed (framingAt (startOf seven line) f e (tallied noTally 0 ks) (length ks))
 framedAnswer seven line (unframed number value) = refusal number value

@@ -1,4 +1,4 @@
-// The framing of a block's line (document 01, part 3, and questions 11 to 17): `find_framing` judges every byte by its sign and
+// The framing of a block's line (document 01, part 3, and the questions up to 17): `find_framing` judges every byte by its sign and
 // field and hands on where header, inner start and text begin and end, or the first refusal. It takes every input.
 use block::EndSign;
 use block::ReadRefusal;

@@ -1,4 +1,4 @@
-// Questions 11 to 17: length, parities, then the walk and what follows its end.
+// The questions up to 17: length, parities, then the walk and what follows its end.
 use crate::WalkEnd;
 use crate::walk::walk;
 use block::BytePlace;
@@ -21,7 +21,7 @@ ghost use Rattle.block_framing.specs.Framings.{ofWalk, framedAnswer};
 // Question 11: the most bytes of a line.
 const LINE_LIMIT: usize = 16384;
 
-// Questions 13 to 17.
+// Questions 13 to 15, 52, 53 and 17.
 fn walk_closed(m: Method, line: &[u8]) -> WalkEnd
     requires { ⌜ length (now line) ≤ 16384 ⌝ }
     ensures { λ r. ⌜ ofWalk r ≡ framedAnswer (isSeven m) (now (line .entry)) (askWalk m (now (line .entry)) (rule.walk (isSeven m) (now (line .entry)) 0 Field.Start)) ⌝ }
@@ -31,16 +31,21 @@ fn walk_closed(m: Method, line: &[u8]) -> WalkEnd
         return walked;
     };
     let after = f.after;
-    if line.len() != after + check_length(m) {
-        return WalkEnd::Refused(ReadRefusal::CheckLength(BytePlace(after)));
+    let counted = f.counted;
+    let closed = after + check_length(m);
+    if line.len() < closed {
+        return WalkEnd::Refused(ReadRefusal::CheckShort(BytePlace(after)));
     }
-    if f.counted > COUNTED_LIMIT {
+    if line.len() > closed {
+        return WalkEnd::Refused(ReadRefusal::CheckLong(BytePlace(after)));
+    }
+    if counted > COUNTED_LIMIT {
         return WalkEnd::Refused(ReadRefusal::TooManyCounted);
     }
     walked
 }
 
-// Questions 11 to 17.
+// Questions 11 to 15, 52, 53 and 17.
 pub fn find_framing(m: Method, p: Parity, line: &[u8]) -> WalkEnd
     ensures { λ r. ⌜ ofWalk r ≡ framedAnswer (isSeven m) (now (line .entry)) (framed m p (now (line .entry))) ⌝ }
 {

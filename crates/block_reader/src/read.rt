@@ -1,4 +1,4 @@
-// Reading a block: questions 11 to 19, then header and text handed out.
+// Reading a block: the questions up to 19, then header and text handed out.
 use crate::check::check_right;
 use block::Block;
 use block::BlockRead;

@@ -27,9 +27,13 @@ abbrev pub numberOf : ReadAnswer → ℕ
 numberOf (taken parts) = 0
 numberOf (refusal number value) = number
 
--- accepted means none of 11 to 18
+-- the refusals of a line that is not accepted, in the order asked
+abbrev pub refusals : List ℕ
+refusals = 11 ∷ 12 ∷ 13 ∷ 14 ∷ 15 ∷ 52 ∷ 53 ∷ 17 ∷ 18 ∷ []
+
+-- accepted means none of them
 abbrev pub AcceptsByNumber : ReadAnswer → Type 0
-AcceptsByNumber a = Accepts a ↔ NoneOf 11 18 (numberOf a)
+AcceptsByNumber a = Accepts a ↔ NoneOf refusals (numberOf a)
 
 -- the bits of the counted bytes, then of the check
 abbrev pub checkedIn : List ℕ → Framed → List Bool

@@ -3,7 +3,7 @@ use mathlib.Core.Path.{_≡_}
 use mathlib.Core.Logic.{_↔_}
 use Prim.Native.Nat.{ℕ}
 use mathlib.Core.Bool.{Bool}
-use mathlib.Core.List.{List, [], _++_}
+use mathlib.Core.List.{List, [], _∷_, _++_}
 use lib.ListN.{length}
 use Rattle.bits.specs.Strings.{zeros, invert}
 use Rattle.cyclic.specs.Check.{Parameters}
@@ -25,9 +25,13 @@ abbrev pub numberOf : ReadAnswer → ℕ
 numberOf (taken content) = 0
 numberOf (refusal number value) = number
 
--- accepted means none of 31 to 37
+-- the refusals of a frame that is not accepted, in the order asked
+abbrev pub refusals : List ℕ
+refusals = 31 ∷ 32 ∷ 33 ∷ 34 ∷ 35 ∷ 36 ∷ 37 ∷ []
+
+-- accepted means none of them
 abbrev pub AcceptsByNumber : ReadAnswer → Type 0
-AcceptsByNumber a = Accepts a ↔ NoneOf 31 37 (numberOf a)
+AcceptsByNumber a = Accepts a ↔ NoneOf refusals (numberOf a)
 
 -- the bits of the content, then of the check
 abbrev pub checkedIn : Framed → List Bool

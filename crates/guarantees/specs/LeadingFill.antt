@@ -2,9 +2,9 @@
 -- framing. Assumes nothing.
 use mathlib.Core.Path.{_≡_}
 use Prim.Native.Nat.{ℕ, _+_, _≤_}
-use mathlib.Core.Bool.{Bool, cond, _||_}
+use mathlib.Core.Bool.{Bool, cond}
 use mathlib.Core.List.{List, [], _∷_, _++_, map}
-use lib.Dec.{leb, eqb}
+use lib.Dec.{leb}
 use lib.ListN.{length, replicate}
 use Rattle.block.specs.declared.Method.{Method}
 use Rattle.block.specs.declared.Parity.{Parity}
@@ -18,6 +18,7 @@ use Rattle.block.specs.Characters.{isSeven, character, sent}
 use Rattle.block.specs.Walk.{inStartDle, inHeader, inHeaderDle, inText, inClear, inClearDle, Walked, halt, cut, onward}
 use Rattle.block.specs.Marks.{LeftOutByte, leftOut}
 use Rattle.block.specs.Read.{Framed, ask, askParities, askWalk, framing, framingOf, ReadAnswer, taken, refusal, askCheck, readBlock}
+use Rattle.guarantees.specs.Lines.{isOneOf}
 use Rattle.guarantees.specs.Blocks.{Accepts, Accepted}
 use Rattle.guarantees.specs.Fill.{firstSign, withoutFill}
 
@@ -76,7 +77,7 @@ fill m p k = replicate k (sent (isSeven m) p SYN)
 
 -- the refusals that carry a place; 13, 15, 17 and 18 carry 0, 19 the needed bytes
 abbrev pub carriesPlace : ℕ → Bool
-carriesPlace number = eqb number 12 || (eqb number 14 || eqb number 16)
+carriesPlace = isOneOf (12 ∷ 14 ∷ 52 ∷ 53 ∷ [])
 
 -- the value of a refusal, k places further where it is a place
 abbrev pub movedValue : ℕ → ℕ → ℕ → ℕ

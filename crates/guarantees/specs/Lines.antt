@@ -3,15 +3,20 @@
 use mathlib.Core.Path.{_≡_}
 use mathlib.Core.Logic.{_↔_}
 use Prim.Native.Nat.{ℕ, _%_, _≤_}
-use mathlib.Core.Bool.{Bool}
+use mathlib.Core.Bool.{Bool, false, _||_}
 use mathlib.Core.List.{List, [], _∷_}
+use lib.Dec.{eqb}
 use lib.ListN.{length}
 use Rattle.bits.specs.Strings.{xorBits}
 use Rattle.bits.specs.Differences.{consIf, setFrom, differing, Apart, Burst}
 
--- a number that is none of those from first to last
-abbrev pub NoneOf : ℕ → ℕ → ℕ → Type 0
-NoneOf first last n = first ≤ n → n ≤ last → ⊥
+-- a number that is none of those listed
+abbrev pub isOneOf : List ℕ → ℕ → Bool
+isOneOf [] n = false
+isOneOf (k ∷ ks) n = eqb n k || isOneOf ks n
+
+abbrev pub NoneOf : List ℕ → ℕ → Type 0
+NoneOf ks n = isOneOf ks n ≡ false
 
 -- the lines of one method: for methods 1 and 2, under one parity setting
 pub record Lines : Type 1 where
@@ -32,7 +37,7 @@ pub record Lines : Type 1 where
   pub isChecked : Line → List Bool
   pub checkedBits : Line → List Bool
 
--- 11 to 17, or 31 to 36, are all passed
+-- the questions up to 17, or 36, are all passed
 abbrev pub HasFraming : (L : Lines) → L .Line → Type 0
 HasFraming L A = L .framingOf A ≡ L .none → ⊥
 

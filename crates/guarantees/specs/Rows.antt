@@ -11,6 +11,7 @@ use Rattle.number.specs.Number.{Verdict, repeat, lost, Outcome}
 use Rattle.number.specs.History.{history}
 use Rattle.block.specs.declared.Method.{Method}
 use Rattle.block.specs.declared.Method.the-variants.{Matrix, Cyclic, CyclicAlternative}
+use Rattle.block.specs.declared.Method.the-variants as method
 use Rattle.block.specs.declared.Parity.{Parity}
 use Rattle.block.specs.declared.Parity.the-variants.{Even, Odd}
 use Rattle.block.specs.declared.Shape.{Shape}
@@ -93,6 +94,8 @@ rows =
     ∷ read Cyclic Even (0x02 ∷ 0x03 ∷ 0xE3 ∷ 0xC2 ∷ [])
     ∷ read Cyclic Even (0x02 ∷ 0x03 ∷ 0xE3 ∷ 0xC3 ∷ [])
     ∷ read Matrix Even (0x82 ∷ 0x41 ∷ 0x03 ∷ [])
+    -- a byte behind the end sign of method 1 (document 02, card 3)
+    ∷ read method.Parity Even (0x82 ∷ 0x41 ∷ 0x03 ∷ 0x42 ∷ [])
     -- 11 and 12
     ∷ write method5 (0xFF ∷ [])
     ∷ write method5 (0xFF ∷ 0xFF ∷ [])
@@ -118,7 +121,9 @@ results =
     ∷ block (parts shape.Text Etx [] [] 1)
     ∷ block (parts shape.Text Etx [] [] 1)
     ∷ block (refusal 18 0)
-    ∷ block (refusal 16 3)
+    ∷ block (refusal 52 3)
+    -- 53 behind the end sign of method 1
+    ∷ block (refusal 53 3)
     -- 11 and 12
     ∷ frame (0x00 ∷ 0xFF ∷ []) 42
     ∷ frame (0xFF ∷ 0xFF ∷ []) 54

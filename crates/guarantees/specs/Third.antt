@@ -38,7 +38,7 @@ Has16Bits method-6 = ⊥
 -- "Take every two unequal lines A and B, both accepted, with one method, one length, one framing and, in methods 1 and 2, one
 -- parity setting."
 pub record ThirdProperty : Type 0 where
-  -- accepted: the number is none of 11 to 18, or 31 to 37, and the line has a framing
+  -- accepted: the number is none of 11 to 15, 52, 53, 17 and 18, or 31 to 37, and the line has a framing
   pub accepted-blocks : (m : Method) (p : Parity) (line : List ℕ) (room : ℕ) → block-lines.AcceptsByNumber (readBlock m p line room)
   pub accepted-frames : (m : Parameters) (frame : List Bool) (room : ℕ) → frame-lines.AcceptsByNumber (readBits m frame room)
   pub accepted-lent : (m : Parameters) (told : ℕ) (lent : List ℕ) (room : ℕ) → frame-lines.AcceptsByNumber (readFrame m told lent room)

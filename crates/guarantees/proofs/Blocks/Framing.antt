@@ -1,4 +1,4 @@
--- A block with a framing is one whose marks 11 to 17 found; it is accepted where 18 finds its check right. Assumes nothing.
+-- A block with a framing is one whose marks the questions up to 17 found; it is accepted where 18 finds its check right. Assumes nothing.
 use mathlib.Core.Path.{_≡_, refl, sym, ap, _∙_}
 use mathlib.Core.Logic.{_↔_}
 use Prim.Native.Nat.{ℕ}
@@ -18,8 +18,9 @@ use Rattle.block.specs.Marks.{counted, checkBytes, leftOut}
 use Rattle.block.specs.Check.{checkOf}
 use Rattle.block.specs.Read.{Framed, found, unframed, framed, none, framing, framingBy, framingOf, askCheck, Parts, partsOf, outputLength, readBlock}
 use Rattle.guarantees.specs.Lines.{SameFraming}
-use Rattle.guarantees.specs.Blocks.{Accepts, Accepted, blocks}
-use Rattle.guarantees.proofs.Blocks.Numbers.{FramedBetween, framed-between, answer}
+use Rattle.guarantees.specs.Blocks.{Accepts, Accepted, refusals, blocks}
+use Rattle.guarantees.proofs.Lines.Numbers.{listed-not-last}
+use Rattle.guarantees.proofs.Blocks.Numbers.{FramedNumbered, framed-numbered, answer}
 
 -- ---- a line with a framing; accepted where 18 finds its check right
 
@@ -53,11 +54,11 @@ module _ (m : Method) (p : Parity) (line : List ℕ) where
       omega arith
 
   pub accepted-found : Accepted m p line → Found m p line
-  accepted-found acc = go (framed m p line) refl (framed-between m p line)
+  accepted-found acc = go (framed m p line) refl (framed-numbered m p line)
     where
-      go : (w : Framed) → framed m p line ≡ w → FramedBetween w → Found m p line
+      go : (w : Framed) → framed m p line ≡ w → FramedNumbered w → Found m p line
       go (found ks f d) e h = record { marks = ks; field = f; end = d; is-found = e }
-      go (unframed n v) e h = let q : n ≡ 19 = rw (answered (unframed n v) 0 e) at (acc 0) in absurd (omega arith)
+      go (unframed n v) e h = let q : n ≡ 19 = rw (answered (unframed n v) 0 e) at (acc 0) in absurd (listed-not-last refusals 19 n refl h q)
 
   module _ (r : Found m p line) where
     abbrev received : List Bool

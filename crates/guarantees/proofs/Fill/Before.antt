@@ -130,7 +130,7 @@ not-accepted m p line room (found ks f e) h a = h
 not-accepted m p line room (unframed n v) h a = omega arith
 
 module _ (m : Method) (p : Parity) where
-  -- questions 11 to 17, by the walk over a line
+  -- the questions up to 17, by the walk over a line
   abbrev framedBy : List ℕ → Walked → Framed
   framedBy line w = ask (leb (length line) 16384) 11 0 (cond (isSeven m) (askParities p line 0 (askWalk m line w)) (askWalk m line w))
 

@@ -5,7 +5,7 @@ use native.Mathlib.Numerals.{add-one}
 use native.Mathlib.Omega.{arith}
 use mathlib.Core.Bool.{Bool, true, false, cond}
 use mathlib.Core.List.{List, [], _∷_}
-use lib.Dec.{lit<, leb, eqb, eqb·suc-suc}
+use lib.Dec.{lit<, leb, leb·suc-suc}
 use lib.ListN.{length}
 use borrow.Author.Tests.{le-leb}
 use Rattle.bits.specs.Strings.{same}
@@ -85,7 +85,7 @@ start-moved seven (b ∷ rest) = go (signOf (character seven b))
     go us = refl
     go other = refl
 
--- ---- questions 11 to 17
+-- ---- the questions up to 17
 
 abbrev pub movedFramed : Framed → Framed
 movedFramed (found ks f e) = found (LeftOut ∷ ks) f e
@@ -112,8 +112,18 @@ end-moved m b line w = go (w .stop)
         let ks = w .marks in
         let few = leb (length (counted ks line)) 4096 in
         let n : suc (length ks) + checkLength m ≡ suc (length ks + checkLength m) = omega arith in
-        rw (ask-moved few 17 0 (found ks f e), n, eqb·suc-suc, ← add-one (length ks))
-        (ask-moved (eqb (length line) (length ks + checkLength m)) 16 (length ks) (ask few 17 0 (found ks f e)))
+        let short = leb (length ks + checkLength m) (length line) in
+        let long = leb (length line) (length ks + checkLength m) in
+        let counted-few = ask few 17 0 (found ks f e) in
+        rw (
+          ask-moved few 17 0 (found ks f e),
+          n,
+          leb·suc-suc (length ks + checkLength m) (length line),
+          leb·suc-suc (length line) (length ks + checkLength m),
+          ← add-one (length ks),
+          ask-moved long 53 (length ks) counted-few,
+        )
+        (ask-moved short 52 (length ks) (ask long 53 (length ks) counted-few))
 
 -- SYN is read where SYN is sent
 pub syn-sign : (seven : Bool) (p : Parity) → signOf (character seven (sent seven p SYN)) ≡ syn

@@ -18,7 +18,8 @@ use Rattle.frame.specs.Stuffing.{Unstuffed, clean, missing, unstuff, behindFive
 use Rattle.frame.specs.Frame.{width, flag}
 use Rattle.frame.specs.Read.{Framed, found, unframed, askLength, askZeros, between, framed, none, framing, framingBy, framingOf, contentOf, checkIn, askCheck, readBits}
 use Rattle.guarantees.specs.Lines.{SameFraming}
-use Rattle.guarantees.specs.Frames.{Accepts, Accepted, frames}
+use Rattle.guarantees.specs.Frames.{Accepts, Accepted, refusals, frames}
+use Rattle.guarantees.proofs.Lines.Numbers.{listed-not-last}
 use Rattle.guarantees.proofs.Frames.Numbers.{FramedNumbered, framed-numbered, answer}
 
 -- ---- 32 to 36
@@ -104,7 +105,7 @@ module _ (m : Parameters) (frame : List Bool) where
     where
       go : (w : Framed) → framed m frame ≡ w → FramedNumbered w → Found m frame
       go (found s) e h = record { checked = s; is-found = e }
-      go (unframed n v) e h = let q : n ≡ 38 = rw (answered (unframed n v) 0 e) at (acc 0) in absurd (omega arith)
+      go (unframed n v) e h = let q : n ≡ 38 = rw (answered (unframed n v) 0 e) at (acc 0) in absurd (listed-not-last refusals 38 n refl h q)
 
   module _ (r : Found m frame) where
     abbrev pub content : List Bool

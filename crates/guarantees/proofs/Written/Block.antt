@@ -1,11 +1,11 @@
--- Reading a written line gives back its parts: questions 11 to 19 in turn. Assumes nothing.
+-- Reading a written line gives back its parts: the questions up to 19 in turn. Assumes nothing.
 use mathlib.Core.Path.{_≡_, sym, ap, ap₂, _∙_}
 use Prim.Native.Nat.{ℕ, _+_, _≤_}
 use native.Mathlib.Omega.{arith}
 use mathlib.Core.Bool.{Bool, cond}
 use mathlib.Core.List.{List, _++_, map}
 use lib.ListN.{length, length-append}
-use borrow.Author.Tests.{le-leb, eq-eqb}
+use borrow.Author.Tests.{le-leb}
 use Rattle.bits.specs.Bytes.{bitsOf, pack}
 use Rattle.bits.proofs.Strings.{same-self}
 use Rattle.block.specs.declared.Method.{Method}
@@ -30,7 +30,7 @@ use Rattle.guarantees.proofs.Written.Parts.{pick, header-picked, text-p
 use Rattle.guarantees.proofs.Written.Parities.{written-parities}
 use Rattle.guarantees.proofs.Written.Lengths.{check-back, marks-short, length-counted}
 
--- ---- a line that passes 11 to 18
+-- ---- a line that passes the questions up to 18
 
 record PassesReading (m : Method) (p : Parity) (line : List ℕ) (ks : List Mark) (f : Field) (e : EndSign) : Type 0 where
   short : length line ≤ 16384
@@ -41,11 +41,14 @@ record PassesReading (m : Method) (p : Parity) (line : List ℕ) (ks : List Mark
   check-right : bitsOf (checkBytes ks line) ≡ checkOf m p (counted ks line)
 
 module _ {m : Method} {p : Parity} {line : List ℕ} {ks : List Mark} {f : Field} {e : EndSign} (h : PassesReading m p line ks f e) where
+  abbrev needed : ℕ
+  needed = length ks + checkLength m
+
   framed-found : framed m p line ≡ found ks f e
   unfolding framed
   framed-found =
       rw (le-leb (length line) 16384 (h .short), h .walked)
-      (h .parities (askEnd m line ks (ended f e)) ∙ rw (eq-eqb _ _ (h .check-follows), le-leb _ _ (h .count)))
+      (h .parities (askEnd m line ks (ended f e)) ∙ rw (le-leb needed (length line) (omega (arith, h .check-follows)), le-leb (length line) needed (omega (arith, h .check-follows)), le-leb _ _ (h .count)))
 
   line-taken : (b : Parts) (space : ℕ) → partsOf m line ks f e ≡ b → outputLength b ≤ space → readBlock m p line space ≡ taken b
   unfolding readBlock

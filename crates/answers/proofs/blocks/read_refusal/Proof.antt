@@ -38,23 +38,29 @@ enum-known-refusal-3 c = c .match .keys6
 numbers-requires-6 : tie.Need-numbers-requires-6
 numbers-requires-6 c κs = tt
 
-enum-told-4 : tie.Need-enum-told-4
-enum-told-4 c = c .match .keys7
+enum-known-refusal-4 : tie.Need-enum-known-refusal-4
+enum-known-refusal-4 c = c .match .keys7
 
 numbers-requires-7 : tie.Need-numbers-requires-7
 numbers-requires-7 c κs = tt
 
-enum-told-5 : tie.Need-enum-told-5
-enum-told-5 c = c .match .keys8
+enum-told-4 : tie.Need-enum-told-4
+enum-told-4 c = c .match .keys8
 
 numbers-requires-8 : tie.Need-numbers-requires-8
 numbers-requires-8 c κs = tt
 
-enum-known-refusal-4 : tie.Need-enum-known-refusal-4
-enum-known-refusal-4 c = c .match .keys9
+enum-told-5 : tie.Need-enum-told-5
+enum-told-5 c = c .match .keys9
 
 numbers-requires-9 : tie.Need-numbers-requires-9
 numbers-requires-9 c κs = tt
+
+enum-known-refusal-5 : tie.Need-enum-known-refusal-5
+enum-known-refusal-5 c = c .match .keys10
+
+numbers-requires-10 : tie.Need-numbers-requires-10
+numbers-requires-10 c κs = tt
 
 returns : tie.Need-returns
 returns c = rw (c .before .enum-told .given .1) (c .numbers .ensures)
@@ -75,13 +81,16 @@ returns-6 : tie.Need-returns-6
 returns-6 c = rw (c .before .before .refusal3 .given .1) (c .numbers6 .ensures)
 
 returns-7 : tie.Need-returns-7
-returns-7 c = rw (c .before .enum-told4 .given .1) (c .numbers7 .ensures)
+returns-7 c = rw (c .before .before .refusal4 .given .1) (c .numbers7 .ensures)
 
 returns-8 : tie.Need-returns-8
-returns-8 c = rw (c .before .enum-told5 .given .1) (c .numbers8 .ensures)
+returns-8 c = rw (c .before .enum-told4 .given .1) (c .numbers8 .ensures)
 
 returns-9 : tie.Need-returns-9
-returns-9 c = rw (c .before .before .refusal4 .given .1) (c .numbers9 .ensures)
+returns-9 c = rw (c .before .enum-told5 .given .1) (c .numbers9 .ensures)
+
+returns-10 : tie.Need-returns-10
+returns-10 c = rw (c .before .before .refusal5 .given .1) (c .numbers10 .ensures)
 
 pub read-refusal-spec : {M : Type 1} → statement M
 read-refusal-spec =
@@ -99,12 +108,14 @@ read-refusal-spec =
     numbers-requires-5
     enum-known-refusal-3
     numbers-requires-6
-    enum-told-4
-    numbers-requires-7
-    enum-told-5
-    numbers-requires-8
     enum-known-refusal-4
+    numbers-requires-7
+    enum-told-4
+    numbers-requires-8
+    enum-told-5
     numbers-requires-9
+    enum-known-refusal-5
+    numbers-requires-10
     returns
     returns-2
     returns-3
@@ -113,4 +124,5 @@ read-refusal-spec =
     returns-6
     returns-7
     returns-8
-    returns-9)
+    returns-9
+    returns-10)
