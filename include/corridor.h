@@ -102,8 +102,9 @@ extern "C" {
  *       place is that of the DLE. Methods 1, 2: DLE everywhere
  *   15  no end sign was reached (also a DLE of header or clear text in
  *       methods 3, 4 with nothing after it)
- *   16  not just the check's bytes (0, 1, 2, 2 by method) follow the end
+ *   52  fewer bytes than the check's (0, 1, 2, 2 by method) follow the end
  *       sign; place after the end sign
+ *   53  more bytes than the check's follow it; the same place
  *   17  more than 4,096 bytes are counted
  *   18  the check is wrong
  *   19  out is too short; bytes needed. The line is sound: read it again with

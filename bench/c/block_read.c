@@ -195,7 +195,7 @@ static void hand_out(const struct walk *w, uint8_t parity, uint8_t *out)
             *out &= 0x7f;
 }
 
-/* Questions 11 to 17. */
+/* Questions 11 to 15, 52, 53 and 17. */
 static uint32_t find(uint8_t method, uint8_t parity, struct walk *w, size_t *place)
 {
     static const size_t check_length[] = {0, 0, 1, 2, 2};
@@ -210,8 +210,10 @@ static uint32_t find(uint8_t method, uint8_t parity, struct walk *w, size_t *pla
     *place = end == OUT_OF_PLACE || end == FOUND ? w->place : 0;
     if (end != FOUND)
         return (uint32_t)end;
-    if (w->length - w->place != check_length[method])
-        return 16;
+    if (w->length - w->place < check_length[method])
+        return 52;
+    if (w->length - w->place > check_length[method])
+        return 53;
     *place = 0;
     return w->counted > LONGEST_COUNT ? 17 : 0;
 }

@@ -42,7 +42,7 @@ pub fn read(link: Link, line: &[u8], out: &mut [u8]) -> Result<[usize; 5], Refus
     take(link, line, Sum(0), right, out)
 }
 
-/// Questions 13 to 19.
+/// Questions 13 to 15, 52, 53 and 17 to 19.
 fn take<C: Check>(
     link: Link,
     line: &[u8],
@@ -52,10 +52,9 @@ fn take<C: Check>(
 ) -> Result<[usize; 5], Refusal> {
     let walked = walk(line, check)?;
     let tail = &line[walked.behind..];
-    ask(
-        tail.len() == link.check_bytes(),
-        Refusal::with(16, walked.behind),
-    )?;
+    let needed = link.check_bytes();
+    ask(tail.len() >= needed, Refusal::with(52, walked.behind))?;
+    ask(tail.len() <= needed, Refusal::with(53, walked.behind))?;
     ask(walked.counted <= LONGEST_COUNT, Refusal::plain(17))?;
     ask(right(walked.check, tail), Refusal::plain(18))?;
     let needed = walked.header.length + walked.text.length;

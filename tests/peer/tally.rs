@@ -21,7 +21,7 @@ const CALLS: [(Call, &str, &[usize]); 5] = [
 /// Every number that documents 01 and 02 give to a question of the call.
 fn questions(call: Call) -> &'static [usize] {
     match call {
-        Call::ReadBlock => &[11, 12, 13, 14, 15, 16, 17, 18, 19],
+        Call::ReadBlock => &[11, 12, 13, 14, 15, 52, 53, 17, 18, 19],
         Call::WriteBlock => &[1, 4, 2, 3, 5, 6],
         Call::ReadFrame => &[31, 32, 33, 34, 35, 36, 37, 38],
         Call::WriteFrame => &[21, 22, 23],

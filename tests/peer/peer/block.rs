@@ -102,19 +102,20 @@ fn accepts(link: Link, counted: &[u8], tail: &[u8]) -> bool {
     }
 }
 
-/// Finds the framing of a line: questions 11 to 17.
+/// Finds the framing of a line: questions 11 to 15, 52, 53 and 17.
 pub fn frame(link: Link, line: &[u8]) -> Result<Walked, Refusal> {
     ask(line.len() <= LONGEST_LINE, Refusal::plain(11))?;
     let wrong = line.iter().position(|byte| !link.parity_right(*byte));
     ask(wrong.is_none(), Refusal::with(12, wrong.unwrap_or(0)))?;
     let walked = walk(link, line)?;
     let tail = line.len() - walked.behind;
-    ask(tail == link.check_bytes(), Refusal::with(16, walked.behind))?;
+    ask(tail >= link.check_bytes(), Refusal::with(52, walked.behind))?;
+    ask(tail <= link.check_bytes(), Refusal::with(53, walked.behind))?;
     ask(walked.counted.len() <= LONGEST_COUNT, Refusal::plain(17))?;
     Ok(walked)
 }
 
-/// Takes a line: questions 11 to 18.
+/// Takes a line: the same, and 18.
 pub fn take(link: Link, line: &[u8]) -> Result<Walked, Refusal> {
     let walked = frame(link, line)?;
     let counted: Vec<u8> = walked.counted.iter().map(|place| line[*place]).collect();
