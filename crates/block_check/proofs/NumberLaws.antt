@@ -1,6 +1,6 @@
 -- The number of a check: one slice after the other, a sum apart from its start, and the check of all the bytes. Assumes nothing.
 use mathlib.Core.Path.{_≡_, refl, sym, ap, ap₂, _∙_}
-use Prim.Native.Nat.{ℕ, zero, suc, _+_, _*_, _%_, _^_, _≤_, _<_}
+use Prim.Native.Nat.{ℕ, zero, suc, _+_, _%_, _^_, _<_}
 use native.Mathlib.Omega.{arith}
 use native.Mathlib.Nat.{lt-of-lt-of-le, mod-eq-of-lt}
 use mathlib.Core.Bool.{Bool, true, false, cond, not, xor}

@@ -13,12 +13,7 @@ use Rattle.block.specs.declared.Mark.{Mark}
 use Rattle.block.specs.declared.Mark.the-variants.{LeftOut, HeaderByte, TextByte, InnerStart, End}
 use Rattle.block.specs.declared.Field.{Field}
 use Rattle.block.specs.declared.Field.the-variants.{Start, StartDle, Header, HeaderDle, Text, Clear, ClearDle}
-use Rattle.block.specs.declared.Judged.{Judged}
-use Rattle.block.specs.declared.Judged.the-variants.{Is, Ends, NoStart, OutOfPlace, DleOutOfPlace}
-use Rattle.block.specs.Signs.{signOf}
-use Rattle.block.specs.Characters.{character}
-use Rattle.block.specs.Walk.{judge}
-use Rattle.block.specs.Walk.{ended, Walked, onward, walk}
+use Rattle.block.specs.Walk.{ended, walk}
 use Rattle.block.specs.Marks.{isHeader, isText, sift, counted, hasInner, shapeOf}
 use Rattle.block.specs.Write.{isClear}
 use Rattle.block_framing.specs.declared.Segments.{Segments}

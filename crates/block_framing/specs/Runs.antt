@@ -1,14 +1,9 @@
 -- Runs of data: the bytes that a field passes over without a change. Assumes nothing.
-use mathlib.Core.Path.{_≡_}
 use Prim.Native.Nat.{ℕ, _≤_, _<_}
-use mathlib.Core.Bool.{Bool, true, false}
-use mathlib.Core.List.{List}
-use lib.ListN.{length, getD}
 use Rattle.block.specs.declared.Mark.{Mark}
 use Rattle.block.specs.declared.Mark.the-variants.{LeftOut, HeaderByte, TextByte}
 use Rattle.block.specs.declared.Field.{Field}
 use Rattle.block.specs.declared.Field.the-variants.{Start, StartDle, Header, HeaderDle, Text, Clear, ClearDle}
-use Rattle.block_framing.specs.Framings.{isKept}
 
 -- the mark of data in a field
 abbrev pub dataMark : Field → Mark

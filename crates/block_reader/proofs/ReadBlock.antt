@@ -20,8 +20,8 @@ use Rattle.block.specs.declared.Field.{Field}
 use Rattle.block.specs.declared.ReadRefusal.{ReadRefusal}
 use Rattle.block.specs.Signs.{endByte}
 use Rattle.block.specs.Characters.{isSeven, character}
-use Rattle.block.specs.Marks.{isHeader, isText, sift, counted, checkBytes, hasInner, shapeOf}
-use Rattle.block.specs.Check.{checkOf, checkLength}
+use Rattle.block.specs.Marks.{isHeader, isText, sift, counted, hasInner, shapeOf}
+use Rattle.block.specs.Check.{checkOf}
 use Rattle.block.specs.Read.{Framed, found, unframed, askCheck, Parts, ReadAnswer, taken, partsOf, outputLength, readBlock, readOutput}
 use Rattle.block.specs.Read as rule
 use Rattle.bits.specs.Calls.{called}

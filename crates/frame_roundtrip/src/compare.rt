@@ -1,6 +1,5 @@
 // What was read beside what was written.
 use check::same;
-ghost use mathlib.Core.Path.{_≡_};
 ghost use Prim.Native.Nat.{_≤_};
 ghost use lib.ListN.{length};
 ghost use Rattle.roundtrip.specs.Returns.{Decides};

@@ -1,8 +1,4 @@
 -- `enter_kept` meets its contract. Assumes nothing.
-use mathlib.Core.Path.{sym, ap, _∙_}
-use mathlib.Core.Bool.{false}
-use Rattle.generator16.specs.Register.{registerAfter}
-use Rattle.block_framing.specs.Framings.{keptBytes}
 use borrow.Author.Needs.{needs}
 use Rattle.block_register.proofs.enter_kept.Statement.{statement}
 use Rattle.block_register.proofs.enter_kept.Tie as tie

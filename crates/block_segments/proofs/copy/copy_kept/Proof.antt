@@ -1,9 +1,7 @@
 -- `copy_kept` meets its contract. The loop's invariant: what is left to store, laid over the output, gives the whole. The measure is what is left. Assumes nothing.
-use Prim.Native.Nat.{_-_, _+_, _≤_}
-use mathlib.Core.Bool.{false}
+use Prim.Native.Nat.{_-_}
 use native.Mathlib.Omega.{arith}
 use lib.ListN.{length}
-use Rattle.block_framing.specs.Framings.{keptBytes}
 use Rattle.block_segments.proofs.Copying.{Copying, copying, copied, stored}
 use borrow.Author.Needs.{needs}
 use Rattle.block_segments.proofs.copy.copy_kept.Statement.{statement}
