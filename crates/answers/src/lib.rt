@@ -1,5 +1,6 @@
 // The answers of the calls in document 01's numbers, as the C library and the programs give them: 0 for success or the number of
-// the refusal, and the values that go with it. Every answer has its numbers, by the rules in specs/.
+// the refusal, and the values that go with it. Here are the types and rules of all, and the answers of the number check; those of
+// blocks and frames are given in crates of their own.
 
 // Of an answer to reading a block: its number, and shape, end sign, lengths of header and text and the counted number; of a refusal
 // its place or needed bytes, then zeros.
@@ -23,18 +24,11 @@ pub struct VerdictNumbers {
 ghost use mathlib.Core.Path.{_≡_};
 ghost use Rattle.answers.specs.Numbers.{valueNumbers};
 
-mod blocks;
-mod frames;
 mod verdicts;
 
-pub use blocks::block_read;
-pub use blocks::block_written;
-pub use blocks::shape_number;
-pub use frames::frame_read;
-pub use frames::frame_written;
 pub use verdicts::received;
 
-fn numbers(number: u32, value: usize) -> ValueNumbers
+pub fn numbers(number: u32, value: usize) -> ValueNumbers
     ensures { λ r. ⌜ r ≡ valueNumbers number value ⌝ }
 {
     ValueNumbers { number, value }

@@ -141,5 +141,3 @@ pub use signs::US;
 pub use signs::character;
 pub use signs::end_byte;
 pub use signs::is_seven;
-pub use signs::parity_right;
-pub use signs::with_parity;

@@ -1,10 +1,7 @@
-// The seven signs, the character of a byte, and parity.
+// The seven signs, and the character of a byte.
 use crate::EndSign;
 use crate::Method;
-use crate::Parity;
 ghost use mathlib.Core.Path.{_≡_};
-ghost use Rattle.bits.specs.Strings.{parity};
-ghost use Rattle.bits.specs.Bytes.{lowBits};
 ghost use Rattle.block.specs.Signs.{endByte};
 ghost use Rattle.block.specs.Characters as rule;
 
@@ -51,41 +48,5 @@ pub fn is_seven(m: Method) -> bool
         Method::Matrix => true,
         Method::Cyclic => false,
         Method::CyclicAlternative => false,
-    }
-}
-
-fn is_odd(p: Parity) -> bool
-    ensures { λ r. ⌜ r ≡ rule.isOdd p ⌝ }
-{
-    match p {
-        Parity::Even => false,
-        Parity::Odd => true,
-    }
-}
-
-// Whether the ones of a byte are odd in number.
-fn odd_ones(b: u8) -> bool
-    ensures { λ r. ⌜ r ≡ parity (lowBits 8 b) ⌝ }
-{
-    let four = b ^ (b / 16);
-    let two = four ^ (four / 4);
-    let one = two ^ (two / 2);
-    one % 2 == 1
-}
-
-pub fn parity_right(p: Parity, b: u8) -> bool
-    ensures { λ r. ⌜ r ≡ rule.parityRight p b ⌝ }
-{
-    odd_ones(b) == is_odd(p)
-}
-
-pub fn with_parity(p: Parity, b: u8) -> u8
-    ensures { λ r. ⌜ r ≡ rule.withParity p b ⌝ }
-{
-    let low = b % 128;
-    if odd_ones(low) == is_odd(p) {
-        low
-    } else {
-        low + 128
     }
 }

@@ -1,7 +1,7 @@
 // A received check against the number of the counted bytes.
 use block::Method;
 use block::Parity;
-use block::with_parity;
+use block_parity::with_parity;
 use cyclic3::Cyclic3;
 use cyclic4::Cyclic4;
 use registers::sent16;

@@ -5,7 +5,7 @@ use block::Parity;
 use block::Shape;
 use block::end_byte;
 use block::sum_slice;
-use block::with_parity;
+use block_parity::with_parity;
 use block_signs::FewBytes;
 use block_signs::inner_signs;
 use cyclic3::Cyclic3;

@@ -1,12 +1,17 @@
-// Question 12 (document 01): the first byte of a line whose parity is wrong.
+// Parity (document 01, part 1, and question 12): a byte with the parity of the link, whether a byte has it, and the first byte of a
+// line that has not. Each takes every input.
 use block::Parity;
-use block::parity_right;
 ghost use mathlib.Core.Path.{_≡_};
 ghost use mathlib.Core.Bool.{true};
 ghost use Prim.Native.Nat.{_+_, _≤_};
 ghost use lib.ListN.{length, drop};
 ghost use Rattle.block.specs.Characters.{parityRight};
 ghost use Rattle.block.specs.Scan.{firstFailing, AllPass};
+
+mod parity;
+
+pub use parity::parity_right;
+pub use parity::with_parity;
 
 // Whether the parities of the 16 bytes from the place `at` on are right. The compiler takes all 16 at once.
 fn sixteen_right(p: Parity, line: &[u8], at: usize) -> bool

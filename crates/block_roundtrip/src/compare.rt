@@ -1,9 +1,9 @@
 // What was read beside what was written.
-use answers::shape_number;
 use block::Block;
 use block::EndSign;
 use block::Shape;
 use block::end_byte;
+use block_answers::shape_number;
 use check::same;
 ghost use mathlib.Core.Path.{_≡_};
 ghost use mathlib.Core.List.{_++_};

@@ -2,7 +2,7 @@
 // takes every input: what has no room in the output is left out. It answers the next place.
 use block::DLE;
 use block::Parity;
-use block::with_parity;
+use block_parity::with_parity;
 ghost use mathlib.Core.Path.{_≡_};
 ghost use mathlib.Core.List.{[], _∷_, map};
 ghost use Prim.Native.Nat.{_+_, _-_, _≤_, _<_};

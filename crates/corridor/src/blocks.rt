@@ -1,7 +1,7 @@
 // The block calls for C.
 use crate::UNKNOWN_CODE;
-use answers::block_read;
-use answers::block_written;
+use block_answers::block_read;
+use block_answers::block_written;
 use block_reader::read_block;
 use block_writer::write_block;
 use codes::FormatCode;

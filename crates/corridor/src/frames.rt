@@ -1,9 +1,9 @@
 // The frame calls for C.
 use crate::UNKNOWN_CODE;
-use answers::frame_read;
-use answers::frame_written;
 use codes::FrameMethodCode;
 use codes::frame_method_of;
+use frame_answers::frame_read;
+use frame_answers::frame_written;
 use frame_reader::read_frame;
 use frame_writer::write_frame;
 ghost use mathlib.Core.Path.{_≡_};

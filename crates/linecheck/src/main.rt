@@ -50,7 +50,7 @@ fn print_taken(b: Block) {
     let shape = b.shape;
     let end = b.end;
     io::write_all(STDOUT_FILENO, b"taken");
-    print_number(answers::shape_number(shape));
+    print_number(block_answers::shape_number(shape));
     print_end(end);
     print_number(b.header);
     print_number(b.text);
@@ -58,7 +58,7 @@ fn print_taken(b: Block) {
 }
 
 fn print_refused(read: BlockRead) {
-    let numbers = answers::block_read(read);
+    let numbers = block_answers::block_read(read);
     let values = numbers.values;
     io::write_all(STDOUT_FILENO, b"refused");
     print_number(numbers.number as usize);

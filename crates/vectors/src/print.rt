@@ -1,10 +1,10 @@
 // The answers of the calls, printed: what was written or taken, or `refused` with document 01's number and value.
-use answers::block_read;
-use answers::block_written;
-use answers::frame_written;
 use block::BlockRead;
 use block::BlockWritten;
+use block_answers::block_read;
+use block_answers::block_written;
 use frame::FrameWritten;
+use frame_answers::frame_written;
 use libc::STDOUT_FILENO;
 
 fn print_number(n: usize) {
