@@ -7,7 +7,7 @@ ghost use Rattle.bits.specs.Bytes.{lowBits};
 ghost use Rattle.division.specs.Generators.{ccitt16};
 ghost use Rattle.registers.specs.Register.{enter};
 
-pub fn enter_word(register: u16, word: u64) -> u16
+pub(crate) fn enter_word(register: u16, word: u64) -> u16
     ensures { λ r. ⌜ lowBits 16 r ≡ enter ccitt16 (lowBits 16 register) (lowBits 64 word) ⌝ }
 {
     let t = (register as u64) ^ word;

@@ -20,7 +20,7 @@ const FOLDED_FROM: usize = 48;
 const PENDING: usize = 24;
 
 // What is yet to be added to the next 192 bits.
-pub struct Pending192 {
+pub(crate) struct Pending192 {
     pub a: u64,
     pub b: u64,
     pub c: u64,

@@ -29,7 +29,7 @@ fn times_two(t: u64) -> u64
     t ^ (low ^ high)
 }
 
-pub fn enter_word(register: u32, word: u64) -> u32
+pub(crate) fn enter_word(register: u32, word: u64) -> u32
     ensures { λ r. ⌜ lowBits 32 r ≡ enter ieee32 (lowBits 32 register) (lowBits 64 word) ⌝ }
 {
     let b = times_two(times_one((register as u64) ^ word));
@@ -42,7 +42,7 @@ pub fn enter_word(register: u32, word: u64) -> u32
     (low ^ high) as u32
 }
 
-pub fn enter_byte(register: u32, byte: u8) -> u32
+pub(crate) fn enter_byte(register: u32, byte: u8) -> u32
     ensures { λ r. ⌜ lowBits 32 r ≡ enter ieee32 (lowBits 32 register) (lowBits 8 byte) ⌝ }
 {
     let k = (register ^ (byte as u32)) % 256;
