@@ -88,6 +88,17 @@ def renaming():
     return names, definitions | lemmas
 
 
+def imported(text):
+    """The names that a file takes from a library that is not of this repository."""
+    own = {name for name in os.listdir("crates")}
+    names = set()
+    for m in re.finditer(r"(?ms)^(?:ghost )?use ([\w.+·]+)\.\{(.*?)\}", text):
+        parts = m.group(1).split(".")
+        if parts[0] != "Rattle" or len(parts) < 2 or parts[1] not in own:
+            names |= set(TOKEN.findall(m.group(2)))
+    return names
+
+
 def together(names, all_names):
     """Names that would fall together with another one of the repository, or with a word that the same file has already."""
     bad = []
@@ -114,7 +125,8 @@ def main():
         sys.exit("names fall together:\n" + "\n".join(bad))
     for path in files((".antt", ".rt", ".edit", ".md")):
         text = open(path, encoding="utf-8").read()
-        put = lambda m: names.get(m.group(0), m.group(0))
+        keep = imported(text)
+        put = lambda m: m.group(0) if m.group(0) in keep else names.get(m.group(0), m.group(0))
         new = re.sub(r"`[^`\n]*`", lambda m: TOKEN.sub(put, m.group(0)), text) if path.endswith(".md") else TOKEN.sub(put, text)
         if new != text:
             open(path, "w", encoding="utf-8").write(new)

@@ -3,7 +3,7 @@ use mathlib.Core.Path.{◌≡◌, refl, sym, ap, ap₂, ◌∙◌}
 use Prim.Native.Nat.{ℕ, zero, suc, ◌+◌, ◌*◌, ◌/◌, ◌%◌, ◌^◌, ◌<◌}
 use native.Mathlib.Omega.{arith}
 use native.Mathlib.Nat.{mod-eq_of_lt, div-eq_of_lt, pow-suc, zero-add, suc-add, div-one}
-use native.Mathlib.Numerals.{add-one, one_add}
+use native.Mathlib.Numerals.{add-one, one-add}
 use mathlib.Core.Bool.{Bool, true, false, true≢false, xor, cond}
 use mathlib.Core.List.{List, [], ◌∷◌, ◌++◌, append_assoc, append-nil}
 use borrow.Author.Tests.{eqb-true, eqb-false}
@@ -34,7 +34,7 @@ low_bits-append zero k n = ap₂ low_bits (zero-add k) (sym (div-one n))
 low_bits-append (suc j) k n =
     ap (λ w. low_bits w n) (suc-add j k)
     ∙ ap (λ z. eqb (n % 2) 1 ∷ z)
-    (low_bits-append j k (n / 2) ∙ ap (λ x. low_bits j (n / 2) ++ low_bits k x) (shr-shr n 1 j ∙ ap (λ x. n / 2 ^ x) (one_add j)))
+    (low_bits-append j k (n / 2) ∙ ap (λ x. low_bits j (n / 2) ++ low_bits k x) (shr-shr n 1 j ∙ ap (λ x. n / 2 ^ x) (one-add j)))
 
 -- what lies above the w low bits is not seen
 pub low_bits-mod : (w n : ℕ) → low_bits w (n % 2 ^ w) ≡ low_bits w n

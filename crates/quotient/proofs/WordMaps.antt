@@ -2,7 +2,7 @@
 -- Assumes nothing.
 use mathlib.Core.Path.{◌≡◌, refl, sym, ap, ap₂, ◌∙◌}
 use Prim.Native.Nat.{ℕ, zero, suc, ◌+◌, ◌*◌, ◌/◌, ◌%◌, ◌^◌, ◌≤◌, ◌<◌, ◌-◌, max}
-use native.Mathlib.Numerals.{one_add}
+use native.Mathlib.Numerals.{one-add}
 use native.Mathlib.Nat.{add-zero, zero-mul, one-mul, pow-suc, mod-lt, div-add-mod', div-eq_of_lt, lt_of_lt_of_le, le_of_eq, le-max_left, le-max_right}
 use native.Mathlib.Omega.{arith}
 use mathlib.Core.Bool.{Bool, true, false}
@@ -114,7 +114,7 @@ agree : (f g : ℕ → List Bool) → Additive f → Additive g → f 0 ≡ g 0 
 agree f g af ag none zero units t h = let e : t ≡ 0 = omega arith in ap f e ∙ none ∙ ap g (sym e)
 agree f g af ag none (suc n) units t h =
     ap f (sym parts) ∙ af (a * 2 ^ n) b
-    ∙ ap₂ xor_bits (bit a (shr_lt 1 n (rw (one_add n) h))) (agree f g af ag none n (λ k l. units k (omega arith)) b (mod-lt t (pow_pos n)))
+    ∙ ap₂ xor_bits (bit a (shr_lt 1 n (rw (one-add n) h))) (agree f g af ag none n (λ k l. units k (omega arith)) b (mod-lt t (pow_pos n)))
     ∙ sym (ag (a * 2 ^ n) b) ∙ ap g parts
   where
     a : ℕ
