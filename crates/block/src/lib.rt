@@ -2,9 +2,11 @@
 // the rules of reading and writing, by which `read_block` (crate block_reader) and `write_block` (crate block_writer) answer. The
 // functions here are what more than one of the crates above uses; each takes every input, and its contract gives the result by
 // the rules.
+#![tactic(auto)]
+
 
 // Methods 1 to 4.
-#[derive(Drop)]
+#[derive(Clone, Copy)]
 pub enum Method {
     Parity,
     Matrix,
@@ -13,14 +15,14 @@ pub enum Method {
 }
 
 // The link's parity: of the ones of a byte, in methods 1 and 2.
-#[derive(Drop)]
+#[derive(Clone, Copy)]
 pub enum Parity {
     Even,
     Odd,
 }
 
 // Shapes 1 to 5. Clear text is document 01's word for transparent text.
-#[derive(Drop)]
+#[derive(Clone, Copy)]
 pub enum Shape {
     Header,
     Text,
@@ -29,7 +31,7 @@ pub enum Shape {
     HeaderClearText,
 }
 
-#[derive(Drop)]
+#[derive(Clone, Copy)]
 pub enum EndSign {
     Etx,
     Etb,
@@ -37,11 +39,11 @@ pub enum EndSign {
 }
 
 // A place in a line or a part, in bytes from 0.
-#[derive(Drop)]
+#[derive(Clone, Copy)]
 pub struct BytePlace(pub usize);
 
 // An accepted block: shape and end sign, the lengths of header and text, and how many bytes were counted.
-#[derive(Drop)]
+#[derive(Clone, Copy)]
 pub struct Block {
     pub shape: Shape,
     pub end: EndSign,
@@ -50,7 +52,7 @@ pub struct Block {
     pub counted: usize,
 }
 
-#[derive(Drop)]
+#[derive(Clone, Copy)]
 pub enum ReadRefusal {
     // 11: more than 16,384 bytes
     TooLong,
@@ -74,13 +76,13 @@ pub enum ReadRefusal {
     OutputShort(usize),
 }
 
-#[derive(Drop)]
+#[derive(Clone, Copy)]
 pub enum BlockRead {
     Taken(Block),
     Refused(ReadRefusal),
 }
 
-#[derive(Drop)]
+#[derive(Clone, Copy)]
 pub enum WriteRefusal {
     // 1: the method does not carry the shape
     NotCarried,
@@ -96,7 +98,7 @@ pub enum WriteRefusal {
     OutputShort(usize),
 }
 
-#[derive(Drop)]
+#[derive(Clone, Copy)]
 pub enum BlockWritten {
     // The length of the line.
     Written(usize),
@@ -104,7 +106,7 @@ pub enum BlockWritten {
 }
 
 // What a byte of a line is. All but what is left out is counted.
-#[derive(Drop)]
+#[derive(Clone, Copy)]
 pub enum Mark {
     LeftOut,
     HeaderByte,
@@ -114,7 +116,7 @@ pub enum Mark {
 }
 
 // The field in which a byte stands. A field "Dle" is the one behind its DLE.
-#[derive(Drop)]
+#[derive(Clone, Copy)]
 pub enum Field {
     Start,
     StartDle,
@@ -126,7 +128,7 @@ pub enum Field {
 }
 
 // What a byte is in its field: a mark, with the field after it; the end sign; no start; out of place, or the DLE before it is.
-#[derive(Drop)]
+#[derive(Clone, Copy)]
 pub enum Judged {
     Is(Mark, Field),
     Ends(EndSign),

@@ -1,5 +1,7 @@
 // The check of a block, method by method: the number that adds up over the counted bytes, a register of methods 3 and 4 or the
 // sums of the matrix, and whether bytes are the check that such a number stands for. Each function takes every input.
+#![tactic(auto)]
+
 mod number;
 mod sent;
 

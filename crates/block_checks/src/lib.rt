@@ -1,4 +1,6 @@
 // The check of a block to be written, over its parts: header, inner start, text and end sign. It takes every input.
+#![tactic(auto)]
+
 ghost use Rattle.std.specs.Prelude.{◌≡◌};
 ghost use Rattle.bits.specs.Bytes.{pack};
 ghost use Rattle.generator16.specs.Register.{register_after};

@@ -1,5 +1,7 @@
 // What is asked at the end of the walk over a line (document 01, part 3): the refusal of a line without an end sign, the signs
 // around its text, its shape, and the fill ahead of its start. Each takes every input.
+#![tactic(auto)]
+
 ghost use Rattle.std.specs.Prelude.{◌≡◌};
 ghost use Rattle.block.specs.Walk as rule;
 ghost use Rattle.block.specs.Answers.{read_number, read_value};

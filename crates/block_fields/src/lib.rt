@@ -1,5 +1,7 @@
 // What a character is in its field (document 01, part 3): `judge` has one match for each field, by the character's value. It takes
 // every input.
+#![tactic(auto)]
+
 ghost use Rattle.std.specs.Prelude.{◌≡◌};
 ghost use Rattle.block.specs.Signs.{sign_of, dle};
 ghost use Rattle.block.specs.Walk as rule;

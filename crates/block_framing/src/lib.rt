@@ -1,10 +1,12 @@
 // The framing of a block's line (document 01, part 3, and the questions up to 17): `find_framing` judges every byte by its sign and
 // field and hands on where header, inner start and text begin and end, or the first refusal. It takes every input.
+#![tactic(auto)]
+
 use block::{EndSign, ReadRefusal, Shape};
 
 // What the walk keeps of the marks: the place of the first inner start (0 where there was none), and how many bytes were left out
 // before it and in all.
-#[derive(Drop)]
+#[derive(Clone, Copy)]
 pub(crate) struct LeftOuts {
     pub inner: usize,
     pub before: usize,
@@ -14,7 +16,7 @@ pub(crate) struct LeftOuts {
 // What the walk hands on: shape and end sign; the places of the header (from `head` up to `inner`), of the inner start (up to
 // `body`) and of the text (up to `tail`); the lengths of header and text without fill; the counted number; and the place after
 // the end sign.
-#[derive(Drop)]
+#[derive(Clone, Copy)]
 pub struct Segments {
     pub shape: Shape,
     pub end: EndSign,
@@ -29,7 +31,7 @@ pub struct Segments {
 }
 
 // How a walk ended.
-#[derive(Drop)]
+#[derive(Clone, Copy)]
 pub enum WalkEnd {
     Found(Segments),
     Refused(ReadRefusal),

@@ -1,4 +1,6 @@
 // The line of a block put together from its parts: `put_line` takes every input, and leaves out what has no room in the output.
+#![tactic(auto)]
+
 ghost use Rattle.std.specs.Prelude.{map, ◌≤◌, length, take};
 ghost use Rattle.block.specs.Characters as characters;
 ghost use Rattle.block.specs.Write as rule;

@@ -1,5 +1,7 @@
 // Parity (document 01, part 1, and question 12): a byte with the parity of the link, whether a byte has it, and the first byte of a
 // line that has not. Each takes every input.
+#![tactic(auto)]
+
 ghost use Rattle.std.specs.Prelude.{◌≡◌, true, ◌+◌, ◌≤◌, length, drop};
 ghost use Rattle.block.specs.Characters.{parity_right};
 ghost use Rattle.block.specs.Scan.{first_failing, AllPass};

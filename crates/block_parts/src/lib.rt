@@ -1,4 +1,6 @@
 // The questions on the parts of a block to be written: 1, 4, 2, 3 and 5 in turn. They take every input.
+#![tactic(auto)]
+
 ghost use Rattle.std.specs.Prelude.{◌≡◌, cond, ◌&&◌, ◌||◌, ◌+◌, leb, eqb, length};
 ghost use Rattle.block.specs.Scan.{first_failing};
 ghost use Rattle.block.specs.Write as rule;
@@ -8,7 +10,7 @@ use block::{BytePlace, COUNTED_LIMIT, Shape, WriteRefusal, is_clear};
 use block_scan::plain_run;
 use block_signs::inner_signs;
 
-#[derive(Drop)]
+#[derive(Clone, Copy)]
 pub enum PartsAsked {
     Passed,
     Refused(WriteRefusal),

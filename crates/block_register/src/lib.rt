@@ -1,5 +1,7 @@
 // The register of methods 3 and 4 over a segment of a framed line: `enter_kept` enters what is neither fill nor the first DLE of a
 // pair (rule `kept_bytes` of crate block_framing). It takes every input.
+#![tactic(auto)]
+
 ghost use Rattle.std.specs.Prelude.{◌≡◌, true, false, [], ◌+◌, ◌<◌, ◌≤◌, length};
 ghost use Rattle.bits.specs.Differences.{cons_if};
 ghost use Rattle.generator16.specs.Register.{register_after};

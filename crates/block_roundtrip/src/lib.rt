@@ -1,6 +1,8 @@
 // A block written, read back and compared: `block_returns` joins the calls to the second property. It takes every input, and
 // answers `Equal` wherever the line is written and the output holds what is read back, and else the refusal of the writer or of the
 // reader, which then is 19. The lent line holds what was written, and what it held before where nothing was.
+#![tactic(auto)]
+
 ghost use Rattle.std.specs.Prelude.{◌≡◌, cond};
 ghost use Rattle.roundtrip.specs.Returns.{returned};
 ghost use Rattle.block_roundtrip.specs.Returns.{of_block_return, block_returns};
@@ -10,7 +12,7 @@ use block::{BlockRead, BlockWritten, EndSign, Method, Parity, ReadRefusal, Shape
 use block_reader::read_block;
 use block_writer::write_block;
 
-#[derive(Drop)]
+#[derive(Clone, Copy)]
 pub enum BlockReturn {
     Equal,
     NotWritten(WriteRefusal),

@@ -1,6 +1,8 @@
 // Runs of data: how many bytes of a part, from its start on, are data of header and plain text (`plain_run`), or of clear text
 // (`clear_run`), or of a field (`data_run`). Sixteen bytes are passed over at once as long as all of them are data, then byte by
 // byte. Each takes every input.
+#![tactic(auto)]
+
 mod clear;
 mod field;
 mod off;

@@ -1,5 +1,7 @@
 // A segment of a framed line, byte by byte: what is neither fill nor the first DLE of a pair (rule `kept_bytes` of crate
 // block_framing) is summed, or copied to an output. Each function takes every input.
+#![tactic(auto)]
+
 mod copy;
 mod kept;
 mod sum;

@@ -1,5 +1,7 @@
 // The signs of a line to be written, by the shape of its block: the start, the inner start and the end. Each function takes every
 // input.
+#![tactic(auto)]
+
 ghost use Rattle.block.specs.Write.{start_signs};
 ghost use Rattle.block_signs.specs.Signs.{Holds, end_signs};
 
@@ -10,7 +12,7 @@ mod inner;
 pub use inner::inner_signs;
 
 // Up to two bytes of a line: signs, or a check.
-#[derive(Drop)]
+#[derive(Clone, Copy)]
 pub struct FewBytes {
     pub bytes: [u8; 2],
     pub length: usize,

@@ -1,5 +1,7 @@
 // Bytes of a line stored in the output from a place `at` on: characters with their parity, and clear text. Each public function
 // takes every input: what has no room in the output is left out. It answers the next place.
+#![tactic(auto)]
+
 ghost use Rattle.std.specs.Prelude.{◌≡◌, [], ◌∷◌, map, ◌+◌, ◌-◌, ◌≤◌, ◌<◌, eqb, length, take};
 ghost use Rattle.block.specs.Signs as signs;
 ghost use Rattle.block.specs.Characters as characters;

@@ -17,7 +17,7 @@ const FOLDED_FROM: usize = 64;
 const PENDING: usize = 32;
 
 // What is yet to be added to the next 256 bits.
-#[derive(Drop)]
+#[derive(Clone, Copy)]
 pub(crate) struct Pending256 {
     pub a: u64,
     pub b: u64,

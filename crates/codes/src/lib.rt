@@ -1,50 +1,52 @@
 // The codes of the C calls, as methods, parities, shapes and end signs: document 01's numbers of methods and shapes, 0 and 1 for
 // parity, the bytes of the end signs. Every number is taken: one outside its list is `Unknown`.
+#![tactic(auto)]
+
 ghost use Rattle.std.specs.Prelude.{◌≡◌};
 ghost use Rattle.codes.specs.Codes.{method_of, parity_of, shape_of, end_of, link_of, format_of, frame_method_of};
 
 use block::{ETB, ETX, EndSign, Method, Parity, Shape, US};
 use frame::FrameMethod;
 
-#[derive(Drop)]
+#[derive(Clone, Copy)]
 enum MethodCode {
     Known(Method),
     Unknown,
 }
 
-#[derive(Drop)]
+#[derive(Clone, Copy)]
 enum ParityCode {
     Known(Parity),
     Unknown,
 }
 
-#[derive(Drop)]
+#[derive(Clone, Copy)]
 enum ShapeCode {
     Known(Shape),
     Unknown,
 }
 
-#[derive(Drop)]
+#[derive(Clone, Copy)]
 enum EndCode {
     Known(EndSign),
     Unknown,
 }
 
 // What a link has agreed: method and parity.
-#[derive(Drop)]
+#[derive(Clone, Copy)]
 pub enum LinkCode {
     Known(Method, Parity),
     Unknown,
 }
 
 // What a block to be written has: shape and end sign.
-#[derive(Drop)]
+#[derive(Clone, Copy)]
 pub enum FormatCode {
     Known(Shape, EndSign),
     Unknown,
 }
 
-#[derive(Drop)]
+#[derive(Clone, Copy)]
 pub enum FrameMethodCode {
     Known(FrameMethod),
     Unknown,

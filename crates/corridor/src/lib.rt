@@ -3,6 +3,8 @@
 // and refusals go by document 01's numbers; 0 is success. Every input is taken: a code outside its list answers 1, with an
 // answer of zeros. The output keeps every byte that a success does not name. Bit 0 of a check is its highest power and is sent
 // first.
+#![tactic(auto)]
+
 ghost use Rattle.std.specs.Prelude.{◌≡◌};
 ghost use Rattle.bits.specs.Bytes.{low_bits, bits_of};
 ghost use Rattle.cyclic.specs.Check.{check_bits, method3, method4, method5, method6};

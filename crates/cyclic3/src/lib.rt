@@ -1,4 +1,6 @@
 // Method 3: the check of a block by appendix 1, inverted.
+#![tactic(auto)]
+
 ghost use Rattle.std.specs.Prelude.{◌≡◌};
 ghost use Rattle.bits.specs.Bytes.{low_bits, bits_of};
 ghost use Rattle.cyclic.specs.Check.{method3, invert_if, check_bits, Constants};
@@ -7,7 +9,7 @@ ghost use Rattle.registers.specs.Register.{enter};
 use ccitt16::enter_ccitt;
 
 // The register of the check. Bit 0 of a number is the highest power of x.
-#[derive(Drop)]
+#[derive(Clone, Copy)]
 pub struct Cyclic3 {
     pub register: u16,
 }
@@ -24,7 +26,7 @@ impl Cyclic3 {
 
     // The register before any content.
     pub fn new() -> Self
-        ensures* { do ⌜ Constants method3 result.register (← (⟦Cyclic3::WIDTH⟧).entry) (← (⟦Cyclic3::POLYNOMIAL⟧).entry) (← (⟦Cyclic3::START⟧).entry) (← (⟦Cyclic3::LIMIT⟧).entry) ⌝ }
+        ensures { Constants method3 result.register Cyclic3.WIDTH Cyclic3.POLYNOMIAL Cyclic3.START Cyclic3.LIMIT }
     {
         Self {
             register: Self::START,

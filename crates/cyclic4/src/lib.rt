@@ -1,4 +1,6 @@
 // Method 4: the alternative check of a block by appendix 3, from zero and not inverted.
+#![tactic(auto)]
+
 ghost use Rattle.std.specs.Prelude.{◌≡◌};
 ghost use Rattle.bits.specs.Bytes.{low_bits, bits_of};
 ghost use Rattle.cyclic.specs.Check.{method4, invert_if, check_bits, Constants};
@@ -7,7 +9,7 @@ ghost use Rattle.registers.specs.Register.{enter};
 use ibm16::enter_ibm;
 
 // The register of the check. Bit 0 of a number is the highest power of x.
-#[derive(Drop)]
+#[derive(Clone, Copy)]
 pub struct Cyclic4 {
     pub register: u16,
 }
@@ -24,7 +26,7 @@ impl Cyclic4 {
 
     // The register before any content.
     pub fn new() -> Self
-        ensures* { do ⌜ Constants method4 result.register (← (⟦Cyclic4::WIDTH⟧).entry) (← (⟦Cyclic4::POLYNOMIAL⟧).entry) (← (⟦Cyclic4::START⟧).entry) (← (⟦Cyclic4::LIMIT⟧).entry) ⌝ }
+        ensures { Constants method4 result.register Cyclic4.WIDTH Cyclic4.POLYNOMIAL Cyclic4.START Cyclic4.LIMIT }
     {
         Self {
             register: Self::START,

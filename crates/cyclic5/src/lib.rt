@@ -1,4 +1,6 @@
 // Method 5: the check of a frame by appendix 1, inverted.
+#![tactic(auto)]
+
 ghost use Rattle.std.specs.Prelude.{◌≡◌};
 ghost use Rattle.bits.specs.Bytes.{low_bits, bits_of};
 ghost use Rattle.cyclic.specs.Check.{method5, invert_if, check_bits, Constants, Receives};
@@ -7,7 +9,7 @@ ghost use Rattle.registers.specs.Register.{enter};
 use ccitt16::enter_ccitt;
 
 // The register of the check. Bit 0 of a number is the highest power of x.
-#[derive(Drop)]
+#[derive(Clone, Copy)]
 pub struct Cyclic5 {
     pub register: u16,
 }
@@ -27,8 +29,8 @@ impl Cyclic5 {
 
     // The register before any content.
     pub fn new() -> Self
-        ensures* fact { do ⌜ Constants method5 result.register (← (⟦Cyclic5::WIDTH⟧).entry) (← (⟦Cyclic5::POLYNOMIAL⟧).entry) (← (⟦Cyclic5::START⟧).entry) (← (⟦Cyclic5::LIMIT⟧).entry) ⌝ }
-        ensures* fact_2 { do ⌜ Receives method5 16 (low_bits 16 (← (⟦Cyclic5::RESIDUE⟧).entry)) ⌝ }
+        ensures constants { Constants method5 result.register Cyclic5.WIDTH Cyclic5.POLYNOMIAL Cyclic5.START Cyclic5.LIMIT }
+        ensures residue { Receives method5 16 (low_bits 16 Cyclic5.RESIDUE) }
     {
         Self {
             register: Self::START,

@@ -1,4 +1,6 @@
 // Method 6: the check of a frame by appendix 2, inverted.
+#![tactic(auto)]
+
 ghost use Rattle.std.specs.Prelude.{◌≡◌};
 ghost use Rattle.bits.specs.Bytes.{low_bits, bits_of};
 ghost use Rattle.cyclic.specs.Check.{method6, invert_if, check_bits, Constants, Receives};
@@ -7,7 +9,7 @@ ghost use Rattle.registers.specs.Register.{enter};
 use ieee32::enter_ieee;
 
 // The register of the check. Bit 0 of a number is the highest power of x.
-#[derive(Drop)]
+#[derive(Clone, Copy)]
 pub struct Cyclic6 {
     pub register: u32,
 }
@@ -27,8 +29,8 @@ impl Cyclic6 {
 
     // The register before any content.
     pub fn new() -> Self
-        ensures* fact { do ⌜ Constants method6 result.register (← (⟦Cyclic6::WIDTH⟧).entry) (← (⟦Cyclic6::POLYNOMIAL⟧).entry) (← (⟦Cyclic6::START⟧).entry) (← (⟦Cyclic6::LIMIT⟧).entry) ⌝ }
-        ensures* fact_2 { do ⌜ Receives method6 32 (low_bits 32 (← (⟦Cyclic6::RESIDUE⟧).entry)) ⌝ }
+        ensures constants { Constants method6 result.register Cyclic6.WIDTH Cyclic6.POLYNOMIAL Cyclic6.START Cyclic6.LIMIT }
+        ensures residue { Receives method6 32 (low_bits 32 Cyclic6.RESIDUE) }
     {
         Self {
             register: Self::START,

@@ -1,18 +1,20 @@
 // Frames of methods 5 and 6 (003 par. 2.2; document 01, part 4): the types of the calls, the rules of writing and reading, and the
 // numbers of a method, for both sides.
+#![tactic(auto)]
+
 
 // Methods 5 and 6: the checks of 16 and of 32 bits.
-#[derive(Drop)]
+#[derive(Clone, Copy)]
 pub enum FrameMethod {
     Cyclic16,
     Cyclic32,
 }
 
 // A place in a frame, in bits from 0.
-#[derive(Drop)]
+#[derive(Clone, Copy)]
 pub struct BitPlace(pub usize);
 
-#[derive(Drop)]
+#[derive(Clone, Copy)]
 pub enum WriteRefusal {
     // 21
     NoContent,
@@ -22,14 +24,14 @@ pub enum WriteRefusal {
     OutputShort(usize),
 }
 
-#[derive(Drop)]
+#[derive(Clone, Copy)]
 pub enum FrameWritten {
     // The number of bits.
     Written(usize),
     Refused(WriteRefusal),
 }
 
-#[derive(Drop)]
+#[derive(Clone, Copy)]
 pub enum ReadRefusal {
     // 31: more bits told than lent
     BitsNotLent,
@@ -49,7 +51,7 @@ pub enum ReadRefusal {
     OutputShort(usize),
 }
 
-#[derive(Drop)]
+#[derive(Clone, Copy)]
 pub enum FrameRead {
     // The bytes of the content.
     Taken(usize),

@@ -1,5 +1,7 @@
 // The answers of the frame calls in document 01's numbers: 0 for success or the number of the refusal, and the value that goes with
 // it. Every answer has its numbers, by the rules of crate answers.
+#![tactic(auto)]
+
 ghost use Rattle.std.specs.Prelude.{◌≡◌};
 ghost use Rattle.frame.specs.Answers.{read_number, read_value, write_number, write_value, of_read, of_written};
 ghost use Rattle.answers.specs.Numbers.{value_numbers, frame_numbers};

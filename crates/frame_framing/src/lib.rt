@@ -1,9 +1,11 @@
 // Finding the framing of a frame (document 01, part 4): questions 31 to 36, and whether the check is right. `find_framing` takes every
 // input.
+#![tactic(auto)]
+
 use frame::ReadRefusal;
 
 // The place of the closing flag, how many bits content and check have, and whether the check is right.
-#[derive(Drop)]
+#[derive(Clone, Copy)]
 pub struct Body {
     pub end: usize,
     pub count: usize,
@@ -11,7 +13,7 @@ pub struct Body {
 }
 
 // A framing, or why there is none.
-#[derive(Drop)]
+#[derive(Clone, Copy)]
 pub enum FramingEnd {
     Found(Body),
     Refused(ReadRefusal),

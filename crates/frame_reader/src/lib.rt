@@ -1,5 +1,7 @@
 // Reading a frame (document 01, part 4): `read_frame` judges the bits of a frame and hands out its content. It takes every input. A
 // refusal carries document 01's number and leaves every byte of the output; a success changes only the bytes of the content.
+#![tactic(auto)]
+
 mod content;
 mod read;
 

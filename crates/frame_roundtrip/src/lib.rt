@@ -1,6 +1,8 @@
 // A frame written, read back and compared: `frame_returns` joins the calls to the second property. It takes every input, and
 // answers `Equal` wherever the frame is written and the output holds what is read back, and else the refusal of the writer or of
 // the reader, which then is 38. The lent frame holds what was written, and what it held before where nothing was.
+#![tactic(auto)]
+
 ghost use Rattle.std.specs.Prelude.{◌≡◌, cond};
 ghost use Rattle.frame.specs.Frame.{parameters_of};
 ghost use Rattle.roundtrip.specs.Returns.{returned};
@@ -11,7 +13,7 @@ use frame::{FrameMethod, FrameRead, FrameWritten, ReadRefusal, WriteRefusal};
 use frame_reader::read_frame;
 use frame_writer::write_frame;
 
-#[derive(Drop)]
+#[derive(Clone, Copy)]
 pub enum FrameReturn {
     Equal,
     NotWritten(WriteRefusal),

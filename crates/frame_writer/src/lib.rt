@@ -1,9 +1,11 @@
 // Writing a frame (document 01, part 4): `write_frame` puts a content and its check between two flags. It takes every input. A
 // refusal carries document 01's number and leaves every byte of the output; a success changes only the bytes of the frame.
+#![tactic(auto)]
+
 
 // Where the next bit of a frame goes: its byte and its place there. The bits of that byte so far are held; `before` are the last
 // four bits sent.
-#[derive(Drop)]
+#[derive(Clone, Copy)]
 pub(crate) struct BitWriter {
     pub index: usize,
     pub place: u32,
@@ -12,7 +14,7 @@ pub(crate) struct BitWriter {
 }
 
 // How many zeros were inserted, and the last four bits sent.
-#[derive(Drop)]
+#[derive(Clone, Copy)]
 pub(crate) struct ZeroCount {
     pub zeros: usize,
     pub before: u32,

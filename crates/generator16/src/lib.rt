@@ -1,12 +1,14 @@
 // The two generators of 16 bits, for code that serves methods 3 and 4 alike. The contracts give the register as a number, so that
 // callers add up registers and sums by the same laws.
+#![tactic(auto)]
+
 ghost use Rattle.std.specs.Prelude.{◌≡◌, [], ◌∷◌};
 ghost use Rattle.generator16.specs.Register.{register_after};
 
 use ccitt16::enter_ccitt;
 use ibm16::enter_ibm;
 
-#[derive(Drop)]
+#[derive(Clone, Copy)]
 pub enum Generator16 {
     Ccitt,
     Ibm,

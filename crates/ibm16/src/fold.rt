@@ -17,7 +17,7 @@ const FOLDED_FROM: usize = 48;
 const PENDING: usize = 24;
 
 // What is yet to be added to the next 192 bits.
-#[derive(Drop)]
+#[derive(Clone, Copy)]
 pub(crate) struct Pending192 {
     pub a: u64,
     pub b: u64,

@@ -1,6 +1,8 @@
 // The generator x^16 + x^15 + x^2 + 1, of method 4: a byte and a whole content entered into its register, without a table. Eight bytes enter at
 // once by their quotient, and a long content is first folded. Every function takes every input, and its contract gives the register
 // bit by bit, by the rule of crate `registers`.
+#![tactic(auto)]
+
 mod enter;
 mod fold;
 

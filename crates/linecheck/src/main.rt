@@ -1,10 +1,12 @@
 // The program of document 01, part 5: reads the settings, a digit 1 to 4 and `e` or `o`, and one line, which is every byte up to
 // the end of input. It prints `taken` with shape, end sign, lengths of header and text and the counted number, or `refused` with
 // number and place, or `settings`. It reads at most one byte more than question 11 allows, which decides the answer.
+#![tactic(auto)]
+
 use block::{Block, BlockRead, EndSign, Method, Parity};
 use libc::{STDIN_FILENO, STDOUT_FILENO};
 
-#[derive(Drop)]
+#[derive(Clone, Copy)]
 enum Setting {
     Known(Method, Parity),
     Unknown,

@@ -1,19 +1,21 @@
 // The number check: whether a received block or frame is new, a repeat, or shows that blocks were lost (003 section 3).
 // `receive` takes every record and number; a bad one is refused with document 01's 41, 51, 42 or 43 and the record stays.
+#![tactic(auto)]
+
 ghost use Rattle.std.specs.Prelude.{◌≡◌, ◌^◌, ◌<◌, ◌≤◌};
 ghost use Rattle.number.specs.Number.{difference, judged, outcome, receiving, refused};
 ghost use Rattle.number.specs.Answers.{number_of, outcome_of};
 
 // What a receiving station keeps: sequence numbers run modulo 2^n, w is the link's window, the most blocks that the far station has
 // on the way, and c is the number that is awaited.
-#[derive(Drop)]
+#[derive(Clone, Copy)]
 pub struct NumberRecord {
     pub n: u8,
     pub w: u8,
     pub c: u8,
 }
 
-#[derive(Drop)]
+#[derive(Clone, Copy)]
 pub enum NumberRefusal {
     // 41: n is not from 1 to 7
     Modulus,
@@ -25,7 +27,7 @@ pub enum NumberRefusal {
     Received,
 }
 
-#[derive(Drop)]
+#[derive(Clone, Copy)]
 pub enum NumberAnswer {
     New,
     Repeat,
@@ -34,7 +36,7 @@ pub enum NumberAnswer {
 }
 
 // The answer and the record after it.
-#[derive(Drop)]
+#[derive(Clone, Copy)]
 pub struct NumberResult {
     pub answer: NumberAnswer,
     pub after: NumberRecord,

@@ -1,5 +1,7 @@
 // A register that bytes enter one by one through the table of a generator, of up to 32 bits, and the bytes of a check as they are
 // sent. The table is lent, so that a loop copies none.
+#![tactic(auto)]
+
 ghost use Rattle.std.specs.Prelude.{◌≡◌};
 ghost use Rattle.bits.specs.Bytes.{low_bits, pack};
 ghost use Rattle.registers.specs.Register.{enter_by_table};

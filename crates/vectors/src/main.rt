@@ -1,5 +1,7 @@
 // Runs the published check values and document 01's rows 11 to 13 and 15 to 17 through the calls, and prints what they answer, a
 // row a line. The file `stdout` holds what the papers say.
+#![tactic(auto)]
+
 use block::Method;
 use cyclic3::Cyclic3;
 use cyclic4::Cyclic4;

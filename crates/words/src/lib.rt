@@ -1,4 +1,6 @@
 // Words of 64 bits: eight bytes of a content as one, and how many words of a content are taken before its last bytes.
+#![tactic(auto)]
+
 ghost use Rattle.std.specs.Prelude.{◌≡◌, ◌++◌, ◌+◌, ◌≤◌, length, take, drop};
 ghost use Rattle.bits.specs.Bytes.{low_bits, bits_of};
 ghost use Rattle.words.specs.Words.{word_at, words_before};

@@ -1,11 +1,13 @@
 // Zero insertion, a byte at a time, by what stands before it on the line (003 par. 2.2.5). Every function takes every input;
 // behind four bits `stuff_byte` gives what the rule gives.
+#![tactic(auto)]
+
 ghost use Rattle.std.specs.Prelude.{◌≡◌, ◌<◌};
 ghost use Rattle.zero_insertion.specs.Insertion.{fives_in, Sends};
 
 // A byte of content or check as it is sent: its bits with the inserted zeros, how many zeros those are, and the last four bits
 // of it all.
-#[derive(Drop)]
+#[derive(Clone, Copy)]
 pub struct SentByte {
     pub bits: u32,
     pub zeros: u32,

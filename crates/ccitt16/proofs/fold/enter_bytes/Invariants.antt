@@ -1,0 +1,12 @@
+-- `enter_bytes` meets its contract. The loop's invariant: what is left gives the whole. Assumes nothing.
+use Prim.Native.Nat.{◌-◌}
+use lib.ListN.{length}
+use Rattle.division.specs.Generators.{ccitt16}
+use Rattle.folding.proofs.Folding.{ByBytes}
+use Rattle.ccitt16.proofs.fold.enter_bytes.Given as goal
+
+abbrev pub invariant-loop-i : goal.invariant-loop-i
+invariant-loop-i l = ByBytes ccitt16 16 l.start l.content l.initial.i l.register l.i
+
+abbrev pub decreases-loop-i : goal.decreases-loop-i
+decreases-loop-i l = length l.content - l.i
