@@ -11,7 +11,9 @@ pub fold_words-f-requires : goal.fold_words-f-requires
 fold_words-f-requires c = (omega arith, (words_within c.words_before-words.ensures (omega arith)).1)
 
 pub enter_words-register-requires : goal.enter_words-register-requires
-enter_words-register-requires c = ((words_within c.words_before-words.ensures (omega arith)).0, c.fold_words_lem.ensures.1)
+enter_words-register-requires c =
+    ((words_within c.words_before-words.ensures (omega arith)).0, c.fold_words-f.ensures.ends_within)
 
 pub returns : goal.returns
-returns c = c.enter_bytes-2.ensures ∙ c.enter_words-register.ensures ∙ c.fold_words_lem.ensures.0
+returns c =
+    c.enter_bytes-2.ensures ∙ c.enter_words-register.ensures ∙ c.fold_words-f.ensures.content_value
