@@ -16,11 +16,11 @@ returns-in-Ccitt c =
     let a = c.args in
     run-entered ccitt16 ccitt16_generator.width a.start (a.byte ∷ []) c.enter_byte.result (search rules) (search rules)
     (c.enter_byte.ensures ∙ ap (enter ccitt16 (low_bits 16 a.start)) (sym (bits_of_one a.byte)))
-    ∙ ap (λ g. register_after g a.start (a.byte ∷ [])) (sym c.enum_told-1.given.1)
+    ∙ ap (λ g. register_after g a.start (a.byte ∷ [])) (sym c.in-Ccitt.is)
 
 pub returns-in-Ibm : goal.returns-in-Ibm
 returns-in-Ibm c =
     let a = c.args in
     run-entered ibm16 ibm16_generator.width a.start (a.byte ∷ []) c.enter_byte-in-Ibm.result (search rules) (search rules)
     (c.enter_byte-in-Ibm.ensures ∙ ap (enter ibm16 (low_bits 16 a.start)) (sym (bits_of_one a.byte)))
-    ∙ ap (λ g. register_after g a.start (a.byte ∷ [])) (sym c.enum_told-in-Ibm-1.given.1)
+    ∙ ap (λ g. register_after g a.start (a.byte ∷ [])) (sym c.in-Ibm.is)

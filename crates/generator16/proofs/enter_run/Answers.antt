@@ -11,10 +11,10 @@ pub returns-in-Ccitt : goal.returns-in-Ccitt
 returns-in-Ccitt c =
     let a = c.args in
     run-entered ccitt16 ccitt16_generator.width a.start a.run.now c.enter_ccitt.result (search rules) (search rules) c.enter_ccitt.ensures
-    ∙ ap (λ g. register_after g a.start a.run.now) (sym c.enum_told-1.given.1)
+    ∙ ap (λ g. register_after g a.start a.run.now) (sym c.in-Ccitt.is)
 
 pub returns-in-Ibm : goal.returns-in-Ibm
 returns-in-Ibm c =
     let a = c.args in
     run-entered ibm16 ibm16_generator.width a.start a.run.now c.enter_ibm.result (search rules) (search rules) c.enter_ibm.ensures
-    ∙ ap (λ g. register_after g a.start a.run.now) (sym c.enum_told-in-Ibm-1.given.1)
+    ∙ ap (λ g. register_after g a.start a.run.now) (sym c.in-Ibm.is)
