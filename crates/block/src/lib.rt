@@ -4,7 +4,6 @@
 // the rules.
 #![tactic(auto)]
 
-
 // Methods 1 to 4.
 #[derive(Clone, Copy)]
 pub enum Method {

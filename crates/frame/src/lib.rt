@@ -2,7 +2,6 @@
 // numbers of a method, for both sides.
 #![tactic(auto)]
 
-
 // Methods 5 and 6: the checks of 16 and of 32 bits.
 #[derive(Clone, Copy)]
 pub enum FrameMethod {

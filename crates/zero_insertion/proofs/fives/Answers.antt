@@ -4,14 +4,10 @@ use Prim.Native.Nat.{◌/◌}
 use lib.Bits.{bit_and, and_shr}
 use lib.Pow.{shr-shr}
 use Rattle.zero_insertion.specs.Insertion.{fives_in}
-use Rattle.zero_insertion.proofs.fives.Statement.{statement}
-use Rattle.zero_insertion.proofs.fives.Tie as tie
+use Rattle.zero_insertion.proofs.fives.Goals as goal
 
-returns : tie.Need-returns
+pub returns : goal.returns
 unfolding fives_in
 returns c =
     let x = c.args.x in
     ap (λ z. bit_and (bit_and (bit_and x (x / 2)) z) (x / 16)) (and_shr x (x / 2) 2 ∙ ap (bit_and (x / 4)) (shr-shr x 1 2))
-
-pub fives-spec : {M : Type 1} → statement M
-fives-spec = tie.close (tie.spec returns)
