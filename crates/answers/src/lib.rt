@@ -3,7 +3,6 @@
 // blocks and frames are given in crates of their own.
 #![tactic(auto)]
 
-
 // Of an answer to reading a block: its number, and shape, end sign, lengths of header and text and the counted number; of a refusal
 // its place or needed bytes, then zeros.
 #[derive(Clone, Copy)]

@@ -39,19 +39,19 @@ first_stays inner at h = rw (not-zero inner (inner - 1) (omega arith))
 -- marks without an inner start leave the place as it is
 pub inner_kept : (t : Tally) (at : ℕ) (ks : List Mark) → has_inner ks ≡ false → (tallied t at ks).inner ≡ t.inner
 inner_kept t at [] h = refl
-inner_kept t at (LeftOut ∷ ks) h = inner_kept _ (at + 1) ks h
-inner_kept t at (HeaderByte ∷ ks) h = inner_kept _ (at + 1) ks h
-inner_kept t at (TextByte ∷ ks) h = inner_kept _ (at + 1) ks h
+inner_kept t at (LeftOut ∷ ks) h = inner_kept (add_mark LeftOut at t) (at + 1) ks h
+inner_kept t at (HeaderByte ∷ ks) h = inner_kept (add_mark HeaderByte at t) (at + 1) ks h
+inner_kept t at (TextByte ∷ ks) h = inner_kept (add_mark TextByte at t) (at + 1) ks h
 inner_kept t at (InnerStart ∷ ks) h = absurd (true≢false h)
-inner_kept t at (End ∷ ks) h = inner_kept _ (at + 1) ks h
+inner_kept t at (End ∷ ks) h = inner_kept (add_mark End at t) (at + 1) ks h
 
 before-kept : (t : LeftOuts) (at : ℕ) (ks : List Mark) → has_inner ks ≡ false → (leaves t at ks).before ≡ t.before
 before-kept t at [] h = refl
-before-kept t at (LeftOut ∷ ks) h = before-kept _ (at + 1) ks h
-before-kept t at (HeaderByte ∷ ks) h = before-kept _ (at + 1) ks h
-before-kept t at (TextByte ∷ ks) h = before-kept _ (at + 1) ks h
+before-kept t at (LeftOut ∷ ks) h = before-kept (leave LeftOut at t) (at + 1) ks h
+before-kept t at (HeaderByte ∷ ks) h = before-kept (leave HeaderByte at t) (at + 1) ks h
+before-kept t at (TextByte ∷ ks) h = before-kept (leave TextByte at t) (at + 1) ks h
 before-kept t at (InnerStart ∷ ks) h = absurd (true≢false h)
-before-kept t at (End ∷ ks) h = before-kept _ (at + 1) ks h
+before-kept t at (End ∷ ks) h = before-kept (leave End at t) (at + 1) ks h
 
 -- the first inner start notes how many bytes were left out before it, a second one nothing
 leave-first : (t : LeftOuts) (at : ℕ) → t.inner ≡ 0 → leave InnerStart at t ≡ record { inner = at; before = t.all; all = t.all }

@@ -3,7 +3,6 @@
 // reader that fits they give what the rule gives. They stand apart because in one they are not inlined.
 #![tactic(auto)]
 
-
 // A byte of the line as it is received: its bits without the inserted zeros, how many zeros those were, and the place of a one
 // where an inserted zero has to be, 8 where there is none.
 #[derive(Clone, Copy)]
