@@ -19,6 +19,7 @@ use Rattle.block.specs.Walk.{in_start, in_start_dle, in_header, in_header_dle}
 use Rattle.block.specs.Walk.{ended, Walked, onward, walk}
 use Rattle.block.specs.Marks.{is_header, is_text, sift, counted, has_inner}
 use Rattle.block_framing.specs.declared.LeftOuts.{LeftOuts}
+use Rattle.block_framing.specs.Framings.{add_mark}
 use Rattle.block_framing.specs.Walks.{leave, leaves}
 use Rattle.block_framing.specs.Framings.{Tally, first_of, tallied, start_of, kept_bytes}
 use Rattle.block_framing.proofs.KeptBySign.{kept_plain}

@@ -2,7 +2,6 @@
 // refusal carries document 01's number and leaves every byte of the output; a success changes only the bytes of the frame.
 #![tactic(auto)]
 
-
 // Where the next bit of a frame goes: its byte and its place there. The bits of that byte so far are held; `before` are the last
 // four bits sent.
 #[derive(Clone, Copy)]
