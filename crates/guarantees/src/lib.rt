@@ -2,4 +2,3 @@
 // document 01's starred rows, and what fill ahead of the start changes (specs/LeadingFill.antt). No functions: what is proved of the
 // rules holds of the calls, whose contracts are equations from the same rules.
 #![tactic(auto)]
-

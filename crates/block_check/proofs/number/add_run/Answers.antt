@@ -1,0 +1,24 @@
+-- `add_run` meets its contract, method by method. Assumes nothing.
+use mathlib.Core.Path.{ap, ◌∙◌}
+use lib.Bits.{bit_xor}
+use Rattle.block_check.specs.Numbers.{number_after}
+use Rattle.block_check.proofs.NumberLaws.{sum_apart}
+use Rattle.block_check.proofs.number.add_run.Goals as goal
+
+pub returns-in-Parity : goal.returns-in-Parity
+unfolding number_after
+returns-in-Parity c = rw c.in-Parity.is
+
+pub returns-in-Matrix : goal.returns-in-Matrix
+unfolding number_after
+returns-in-Matrix c =
+    let number = c.args.number in
+    rw c.in-Matrix.is (ap (bit_xor number) c.sum_slice.ensures ∙ sum_apart number _)
+
+pub returns-in-Cyclic : goal.returns-in-Cyclic
+unfolding number_after
+returns-in-Cyclic c = rw c.in-Cyclic.is c.enter_run.ensures
+
+pub returns-in-CyclicAlternative : goal.returns-in-CyclicAlternative
+unfolding number_after
+returns-in-CyclicAlternative c = rw c.in-CyclicAlternative.is c.enter_run-in-CyclicAlternative.ensures

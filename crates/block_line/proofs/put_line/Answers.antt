@@ -1,0 +1,22 @@
+-- `put_line` meets its contract: the parts of the line are stored one after the other. Assumes nothing.
+use Rattle.block_signs.proofs.Few.{holds_within}
+use Rattle.block_store.proofs.Stores.{length-stored}
+use Rattle.block_line.proofs.put_line.Goals as goal
+
+pub put_few-start-requires : goal.put_few-start-requires
+put_few-start-requires c = holds_within c.start_signs.ensures
+
+pub put_few-inner-requires : goal.put_few-inner-requires
+put_few-inner-requires c = holds_within c.inner_signs.ensures
+
+pub put_few-ending-requires : goal.put_few-ending-requires
+put_few-ending-requires c = holds_within c.end_signs.ensures
+
+pub put_few-requires : goal.put_few-requires
+put_few-requires c = holds_within c.written_check-check.ensures
+
+pub shape_of-out : goal.shape_of-out
+shape_of-out c = length-stored (stored c)
+
+pub returns : goal.returns
+returns c = stored c

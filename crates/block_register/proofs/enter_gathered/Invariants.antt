@@ -1,0 +1,15 @@
+-- `enter_gathered` meets its contract. The loop's invariant: what is left of the segment gives the whole. The measure is what is left. Assumes nothing.
+use mathlib.Core.Path.{◌≡◌}
+use Prim.Native.Nat.{◌-◌}
+use mathlib.Core.Bool.{false}
+use lib.ListN.{length}
+use Rattle.generator16.specs.Register.{register_after}
+use Rattle.generator16.proofs.Registers.{after-nil, after-append}
+use Rattle.block_segments.proofs.Folding.{Folding}
+use Rattle.block_register.proofs.enter_gathered.Given as goal
+
+abbrev pub invariant-loop-i : goal.invariant-loop-i
+invariant-loop-i l = Folding (register_after l.g) (after-nil l.g) (after-append l.g) false false l.start l.part l.register false l.i × (length l.gathered ≡ 256)
+
+abbrev pub decreases-loop-i : goal.decreases-loop-i
+decreases-loop-i l = length l.part - l.i
