@@ -2,4 +2,3 @@
 // specs/Laws.antt states what is proved: the law of division, linearity, which differences leave no remainder,
 // and for which distances two changed bits go unseen. The crate has no functions.
 #![tactic(auto)]
-

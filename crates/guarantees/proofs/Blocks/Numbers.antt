@@ -106,7 +106,7 @@ FramedNumbered = FramedIn refusals
 
 pub framed_numbered : (m : Method) (p : Parity) (line : List ℕ) → FramedNumbered (framed m p line)
 framed_numbered m p line =
-    framed_in
+    framed_in {ns = refusals}
     (record { too_long = refl; wrong_parity = refl; no_start = refl; out_of_place = refl; no_end = refl; check_long = refl; too_many = refl })
     m p line (λ e. refl)
 
@@ -120,7 +120,7 @@ framed-others : (p : Parity) (line : List ℕ) → FramedIn others (framed metho
 framed-others p line =
     let seven = is_seven method.Parity in
     let needed = length (walk seven line 0 Start).marks + check_length method.Parity in
-    framed_in
+    framed_in {ns = others}
     (record { too_long = refl; wrong_parity = refl; no_start = refl; out_of_place = refl; no_end = refl; check_long = refl; too_many = refl })
     method.Parity p line
     (λ e. absurd (omega (arith, marks-within seven line 0 Start, check_length_lem method.Parity, leb-false needed (length line) e)))

@@ -162,8 +162,8 @@ module _ (m : Method) (p : Parity) (line : List ℕ) where
 
   walked-moved : ask_walk m longer (walk (is_seven m) longer 0 Start) ≡ moved_framed (ask_walk m line walked)
   walked-moved =
-      ap (ask_walk m longer) (syn_ahead (is_seven m) _ line 0 (syn_sign (is_seven m) p) ∙ ap (ahead LeftOut) (start-moved (is_seven m) line))
-      ∙ end_moved m _ line walked
+      ap (ask_walk m longer) (syn_ahead (is_seven m) (sent (is_seven m) p SYN) line 0 (syn_sign (is_seven m) p) ∙ ap (ahead LeftOut) (start-moved (is_seven m) line))
+      ∙ end_moved m (sent (is_seven m) p SYN) line walked
 
   pub framed-moved : length longer ≤ 16384 → framed m p longer ≡ moved_framed (framed m p line)
   unfolding framed

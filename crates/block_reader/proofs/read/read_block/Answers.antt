@@ -11,7 +11,7 @@ returns-in-Refused c =
     no_framing a.method a.parity a.line.now a.out.now c.find_framing.ensures c.in-Refused.is
 
 pub shape_of-out : goal.shape_of-out
-shape_of-out c = c.read_framed.auto.1.1.1.1.0
+shape_of-out c = c.read_framed.auto.out
 
 pub returns-in-Found : goal.returns-in-Found
 returns-in-Found c = c.read_framed.ensures
