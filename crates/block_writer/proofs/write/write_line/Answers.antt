@@ -1,0 +1,15 @@
+-- `write_line` meets its contract, with and without room. Assumes nothing.
+use Rattle.block.specs.Write.{line_of}
+use Rattle.block_writer.proofs.Writing.{room_short, room_enough}
+use Rattle.block_writer.proofs.write.write_line.Goals as goal
+
+pub returns-then-needed-out : goal.returns-then-needed-out
+returns-then-needed-out c =
+    let a = c.args in
+    room_short (line_of a.method a.parity a.shape a.end a.header.now a.text.now) a.out.now (c.line_length-needed.ensures a.parity) c.if-needed-out.true
+
+pub returns : goal.returns
+returns c =
+    let a = c.args in
+    room_enough (line_of a.method a.parity a.shape a.end a.header.now a.text.now) a.out.now (c.line_length-needed.ensures a.parity) c.if-needed-out.false
+    c.put_line.ensures
