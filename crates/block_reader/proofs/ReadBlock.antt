@@ -20,7 +20,7 @@ use Rattle.block.specs.declared.Field.{Field}
 use Rattle.block.specs.declared.ReadRefusal.{ReadRefusal}
 use Rattle.block.specs.Signs.{end_byte}
 use Rattle.block.specs.Characters.{is_seven, character}
-use Rattle.block.specs.Marks.{is_header, is_text, sift, counted, has_inner, shape_of}
+use Rattle.block.specs.Marks.{is_header, is_text, sift, has_inner, shape_of}
 use Rattle.block.specs.Check.{check_of}
 use Rattle.block.specs.Read.{Framed, found, unframed, ask_check, Parts, ReadAnswer, taken, parts_of, output_length, read_block, read_output}
 use Rattle.block.specs.Read as rule

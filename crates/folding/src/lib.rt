@@ -2,4 +2,3 @@
 // over the generator and the powers, the multiple of each generator, and the loops over a content, on which crates `ccitt16`, `ibm16`
 // and `ieee32` rest. The crate has no functions.
 #![tactic(auto)]
-

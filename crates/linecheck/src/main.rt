@@ -3,8 +3,11 @@
 // number and place, or `settings`. It reads at most one byte more than question 11 allows, which decides the answer.
 #![tactic(auto)]
 
+ghost use Rattle.std.specs.Prelude.{◌≤◌, length, IfOk};
+
 use block::{Block, BlockRead, EndSign, Method, Parity};
-use libc::{STDIN_FILENO, STDOUT_FILENO};
+use std::io;
+use std::io::Read;
 
 #[derive(Clone, Copy)]
 enum Setting {
@@ -30,58 +33,70 @@ fn settings_of(digit: u8, letter: u8) -> Setting {
     }
 }
 
-fn print_number(n: usize) {
-    io::write_all(STDOUT_FILENO, b" ");
-    io::print_decimal(STDOUT_FILENO, n as u64);
+fn print_number(rt: &impl Print, n: usize) -> io::Result<()> {
+    print!(rt; " {n}")
 }
 
-fn print_end(e: EndSign) {
+fn print_end(rt: &impl Print, e: EndSign) -> io::Result<()> {
     match e {
-        EndSign::Etx => io::write_all(STDOUT_FILENO, b" 03"),
-        EndSign::Etb => io::write_all(STDOUT_FILENO, b" 17"),
-        EndSign::Us => io::write_all(STDOUT_FILENO, b" 1F"),
-    };
+        EndSign::Etx => print!(rt; " 03"),
+        EndSign::Etb => print!(rt; " 17"),
+        EndSign::Us => print!(rt; " 1F"),
+    }
 }
 
-fn print_taken(b: Block) {
+fn print_taken(rt: &impl Print, b: Block) -> io::Result<()> {
     let shape = b.shape;
     let end = b.end;
-    io::write_all(STDOUT_FILENO, b"taken");
-    print_number(block_answers::shape_number(shape));
-    print_end(end);
-    print_number(b.header);
-    print_number(b.text);
-    print_number(b.counted);
+    print!(rt; "taken")?;
+    print_number(rt, block_answers::shape_number(shape))?;
+    print_end(rt, end)?;
+    print_number(rt, b.header)?;
+    print_number(rt, b.text)?;
+    print_number(rt, b.counted)
 }
 
-fn print_refused(read: BlockRead) {
+fn print_refused(rt: &impl Print, read: BlockRead) -> io::Result<()> {
     let numbers = block_answers::block_read(read);
     let values = numbers.values;
-    io::write_all(STDOUT_FILENO, b"refused");
-    print_number(numbers.number as usize);
-    print_number(values[0]);
+    print!(rt; "refused")?;
+    print_number(rt, numbers.number as usize)?;
+    print_number(rt, values[0])
 }
 
-fn run(input: &[u8]) {
+fn run(rt: &impl Print, input: &[u8]) -> io::Result<()> {
     if input.len() < 2 {
-        io::write_all(STDOUT_FILENO, b"settings");
-        return;
+        return print!(rt; "settings");
     }
     let Setting::Known(m, p) = settings_of(input[0], input[1]) else {
-        io::write_all(STDOUT_FILENO, b"settings");
-        return;
+        return print!(rt; "settings");
     };
     let mut out = [0u8; 16384];
     let read = block_reader::read_block(m, p, &input[2..], &mut out);
     match read {
-        BlockRead::Taken(b) => print_taken(b),
-        BlockRead::Refused(_) => print_refused(read),
+        BlockRead::Taken(b) => print_taken(rt, b),
+        BlockRead::Refused(_) => print_refused(rt, read),
     }
 }
 
-fn main() {
+// Reads until the buffer is full or the input ends.
+fn read_full<R: Read>(input: &mut R, buffer: &mut [u8]) -> io::Result<usize>
+    ensures { IfOk result (λ n. n ≤ length buffer.old) }
+{
+    let mut n = 0;
+    while n < buffer.len() {
+        let got = input.read(&mut buffer[n..])?;
+        if got == 0 {
+            return Ok(n);
+        }
+        n += got;
+    }
+    Ok(n)
+}
+
+fn main(rt: HostRuntime) -> io::Result<()> {
     let mut input = [0u8; 16387];
-    let n = io::read_full(STDIN_FILENO, &mut input);
-    run(&input[..n]);
-    io::write_all(STDOUT_FILENO, b"\n");
+    let n = read_full(&mut rt.stdin(), &mut input)?;
+    run(&rt, &input[..n])?;
+    print!(&rt; "\n")
 }

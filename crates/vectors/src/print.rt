@@ -3,66 +3,65 @@ use block::{BlockRead, BlockWritten};
 use block_answers::{block_read, block_written};
 use frame::FrameWritten;
 use frame_answers::frame_written;
-use libc::STDOUT_FILENO;
+use std::io;
 
-fn print_number(n: usize) {
-    io::write_all(STDOUT_FILENO, b" ");
-    io::print_decimal(STDOUT_FILENO, n as u64);
+fn print_number(rt: &impl Print, n: usize) -> io::Result<()> {
+    print!(rt; " {n}")
 }
 
-fn print_refused(number: u32, value: usize) {
-    io::write_all(STDOUT_FILENO, b" refused");
-    print_number(number as usize);
-    print_number(value);
+fn print_refused(rt: &impl Print, number: u32, value: usize) -> io::Result<()> {
+    print!(rt; " refused")?;
+    print_number(rt, number as usize)?;
+    print_number(rt, value)
 }
 
 // The length of the line.
-pub fn print_written(label: &[u8], w: BlockWritten) {
-    io::write_all(STDOUT_FILENO, label);
+pub fn print_written(rt: &impl Print, label: &str, w: BlockWritten) -> io::Result<()> {
+    print!(rt; "{label}")?;
     match w {
         BlockWritten::Written(n) => {
-            io::write_all(STDOUT_FILENO, b" written");
-            print_number(n);
+            print!(rt; " written")?;
+            print_number(rt, n)?;
         }
         BlockWritten::Refused(_) => {
             let numbers = block_written(w);
-            print_refused(numbers.number, numbers.value);
+            print_refused(rt, numbers.number, numbers.value)?;
         }
     }
-    io::write_all(STDOUT_FILENO, b"\n");
+    print!(rt; "\n")
 }
 
 // The lengths of header and text, and the counted number.
-pub fn print_read(label: &[u8], r: BlockRead) {
-    io::write_all(STDOUT_FILENO, label);
+pub fn print_read(rt: &impl Print, label: &str, r: BlockRead) -> io::Result<()> {
+    print!(rt; "{label}")?;
     match r {
         BlockRead::Taken(b) => {
-            io::write_all(STDOUT_FILENO, b" taken");
-            print_number(b.header);
-            print_number(b.text);
-            print_number(b.counted);
+            print!(rt; " taken")?;
+            print_number(rt, b.header)?;
+            print_number(rt, b.text)?;
+            print_number(rt, b.counted)?;
         }
         BlockRead::Refused(_) => {
             let numbers = block_read(r);
             let values = numbers.values;
-            print_refused(numbers.number, values[0]);
+            print_refused(rt, numbers.number, values[0])?;
         }
     }
-    io::write_all(STDOUT_FILENO, b"\n");
+    print!(rt; "\n")
 }
 
 // The number of bits.
-pub fn print_frame(label: &[u8], w: FrameWritten) {
-    io::write_all(STDOUT_FILENO, label);
+pub fn print_frame(rt: &impl Print, label: &str, w: FrameWritten) -> io::Result<()> {
+    print!(rt; "{label}")?;
     match w {
         FrameWritten::Written(bits) => {
-            io::write_all(STDOUT_FILENO, b" bits");
-            print_number(bits);
+            print!(rt; " bits")?;
+            print_number(rt, bits)?;
         }
         FrameWritten::Refused(_) => {
             let numbers = frame_written(w);
-            print_refused(numbers.number, numbers.value);
+            print_refused(rt, numbers.number, numbers.value)?;
         }
     }
-    io::write_all(STDOUT_FILENO, b"\n");
+    print!(rt; "\n")
 }

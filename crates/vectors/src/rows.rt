@@ -5,17 +5,18 @@ use block_reader::read_block;
 use block_writer::write_block;
 use frame::FrameMethod;
 use frame_writer::write_frame;
+use std::io;
 
-pub fn row_13() {
+pub fn row_13(rt: &impl Print) -> io::Result<()> {
     let mut out = [0u8; 16];
     let written = write_frame(FrameMethod::Cyclic32, b"\xff", &mut out);
-    print_frame(b"row 13, write FF, method 6:", written);
+    print_frame(rt, "row 13, write FF, method 6:", written)
 }
 
-pub fn row_15() {
+pub fn row_15(rt: &impl Print) -> io::Result<()> {
     let mut out = [0u8; 16];
     let read = read_block(Method::Matrix, Parity::Even, b"\x82\x41\x03\x43", &mut out);
-    print_read(b"row 15, 82 41 03 43, method 2, even parity:", read);
+    print_read(rt, "row 15, 82 41 03 43, method 2, even parity:", read)
 }
 
 fn write_text(text: &[u8], line: &mut [u8]) -> BlockWritten {
@@ -31,30 +32,30 @@ fn write_text(text: &[u8], line: &mut [u8]) -> BlockWritten {
 }
 
 // Text and end sign are counted. The line is STX, text, ETX and two bytes of check.
-pub fn row_16_taken() {
+pub fn row_16_taken(rt: &impl Print) -> io::Result<()> {
     let text = [b'A'; 4095];
     let mut line = [0u8; 4099];
     let mut out = [0u8; 4096];
     let written = write_text(&text, &mut line);
-    print_written(b"row 16, write counted 4096:", written);
+    print_written(rt, "row 16, write counted 4096:", written)?;
     let read = read_block(Method::Cyclic, Parity::Even, &line, &mut out);
-    print_read(b"row 16, read counted 4096:", read);
+    print_read(rt, "row 16, read counted 4096:", read)
 }
 
-pub fn row_16_refused() {
+pub fn row_16_refused(rt: &impl Print) -> io::Result<()> {
     let text = [b'A'; 4096];
     let mut line = [b'A'; 4100];
     let mut out = [0u8; 4096];
     let written = write_text(&text, &mut line);
-    print_written(b"row 16, write counted 4097:", written);
+    print_written(rt, "row 16, write counted 4097:", written)?;
     line[0] = STX;
     line[4097] = ETX;
     let read = read_block(Method::Cyclic, Parity::Even, &line, &mut out);
-    print_read(b"row 16, read counted 4097:", read);
+    print_read(rt, "row 16, read counted 4097:", read)
 }
 
-pub fn row_17(label: &[u8], method: Method) {
+pub fn row_17(rt: &impl Print, label: &str, method: Method) -> io::Result<()> {
     let mut out = [0u8; 16];
     let read = read_block(method, Parity::Even, b"", &mut out);
-    print_read(label, read);
+    print_read(rt, label, read)
 }

@@ -1,6 +1,5 @@
 -- `fill_ahead` meets its contract. The loop's invariant: the scan from here on gives the whole. Assumes nothing.
 use mathlib.Core.Path.{ap, ◌∙◌}
-use Prim.Native.Nat.{◌-◌}
 use lib.Dec.{eqb}
 use borrow.Author.Tests.{eq-eqb, ne_eqb}
 use Rattle.block.specs.Signs.{SYN}

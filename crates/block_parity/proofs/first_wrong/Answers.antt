@@ -1,6 +1,4 @@
 -- `first_wrong` meets its contract. The loop's invariant: the search from here on gives the whole. The measure is what is left. Assumes nothing.
-use Prim.Native.Nat.{◌-◌}
-use Rattle.block.specs.Characters.{parity_right}
 use Rattle.block.proofs.Scans.{scan_on, scan_stops, scan_ends}
 use Rattle.block_parity.proofs.first_wrong.Goals as goal
 

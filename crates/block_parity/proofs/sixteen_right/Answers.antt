@@ -1,6 +1,5 @@
 -- `sixteen_right` meets its contract. The loop's invariant: where all was right, every place passed is. Assumes nothing.
 use mathlib.Core.Path.{sym, ◌∙◌}
-use Prim.Native.Nat.{◌-◌}
 use native.Mathlib.Omega.{arith}
 use Rattle.block.proofs.Scans.{sixteen_begin, sixteen_turn, sixteen_end}
 use Rattle.block_parity.proofs.sixteen_right.Goals as goal

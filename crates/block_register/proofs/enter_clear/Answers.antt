@@ -1,5 +1,4 @@
 -- `enter_clear` meets its contract. The loop's invariant: what is left of the segment gives the whole. The measure is what is left. Assumes nothing.
-use Prim.Native.Nat.{◌-◌}
 use native.Mathlib.Omega.{arith}
 use mathlib.Core.Bool.{true, false}
 use Rattle.generator16.specs.Register.{register_after}

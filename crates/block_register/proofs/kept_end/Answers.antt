@@ -1,6 +1,5 @@
 -- `kept_end` meets its contract. The loop's invariant: every byte passed is kept. The measure is what is left. Assumes nothing.
 use mathlib.Core.Path.{sym, ◌∙◌}
-use Prim.Native.Nat.{◌-◌}
 use mathlib.Core.Bool.{false}
 use Rattle.block_register.proofs.ClearRuns.{run_none, run_more}
 use Rattle.block_register.proofs.kept_end.Goals as goal

@@ -1,5 +1,4 @@
 -- `sum_slice` meets its contract. The loop's invariant: what is left to sum gives the whole. The measure is what is left. Assumes nothing.
-use Prim.Native.Nat.{◌-◌}
 use Rattle.block.proofs.Sums.{begin, turn, whole}
 use Rattle.block.proofs.check.sum_slice.Goals as goal
 

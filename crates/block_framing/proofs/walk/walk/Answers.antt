@@ -1,6 +1,6 @@
 -- `walk` meets its contract. The loop's invariant: what is left of the walk gives the whole. The measure is what is left of the line. Assumes nothing.
 use mathlib.Core.Path.{ap, ◌∙◌}
-use Prim.Native.Nat.{◌+◌, ◌-◌}
+use Prim.Native.Nat.{◌+◌}
 use native.Mathlib.Omega.{arith}
 use Rattle.block.specs.declared.Judged.TheVariants.{NoStart, OutOfPlace, DleOutOfPlace}
 use Rattle.block_framing.specs.Framings.{refusal}

@@ -1,7 +1,5 @@
 -- `clear_run` meets its contract. The loop's invariant: the scan from here on gives the whole. Assumes nothing.
-use Prim.Native.Nat.{◌-◌}
 use Rattle.block.proofs.Scans.{scan_on, scan_stops, scan_ends}
-use Rattle.block_scan.specs.Tests.{is_clear_byte}
 use Rattle.block_scan.proofs.clear.clear_run.Goals as goal
 
 pub loop-i-init : goal.loop-i-init

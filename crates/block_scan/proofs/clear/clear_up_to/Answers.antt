@@ -1,5 +1,4 @@
 -- `clear_up_to` meets its contract. The loop's invariant: the scan from here on gives the whole. Assumes nothing.
-use Prim.Native.Nat.{◌-◌}
 use native.Mathlib.Omega.{arith}
 use Rattle.block.proofs.Scans.{scan_begin, scan_sixteen}
 use Rattle.block_scan.proofs.clear.clear_up_to.Goals as goal

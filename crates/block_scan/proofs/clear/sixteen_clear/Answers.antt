@@ -1,6 +1,5 @@
 -- `sixteen_clear` meets its contract. The loop's invariant: where all passed, every byte passed is data. Assumes nothing.
 use mathlib.Core.Path.{sym, ◌∙◌}
-use Prim.Native.Nat.{◌-◌}
 use native.Mathlib.Omega.{arith}
 use Rattle.block.proofs.Scans.{sixteen_begin, sixteen_turn, sixteen_end}
 use Rattle.block_scan.proofs.clear.sixteen_clear.Goals as goal

@@ -1,5 +1,4 @@
 -- `all_above` meets its contract. The loop's invariant: where all passed, every byte passed is data. Assumes nothing.
-use Prim.Native.Nat.{◌-◌}
 use native.Mathlib.Omega.{arith}
 use Rattle.block.proofs.Scans.{sixteen_begin, sixteen_turn, sixteen_end}
 use Rattle.block_scan.proofs.Bytes.{above_plain}

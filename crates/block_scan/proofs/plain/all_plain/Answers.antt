@@ -1,5 +1,4 @@
 -- `all_plain` meets its contract. The loop's invariant: where no byte was a sign or too high, every byte passed is data. Assumes nothing.
-use Prim.Native.Nat.{◌-◌}
 use native.Mathlib.Omega.{arith}
 use Rattle.block.proofs.Scans.{sixteen_begin, sixteen_next, sixteen_end}
 use Rattle.block_scan.proofs.Bytes.{least_plain}

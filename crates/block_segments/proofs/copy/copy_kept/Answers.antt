@@ -1,5 +1,4 @@
 -- `copy_kept` meets its contract. The loop's invariant: what is left to store, laid over the output, gives the whole. The measure is what is left. Assumes nothing.
-use Prim.Native.Nat.{◌-◌}
 use native.Mathlib.Omega.{arith}
 use Rattle.block_segments.proofs.Copying.{copying, copied, stored}
 use Rattle.block_segments.proofs.copy.copy_kept.Goals as goal

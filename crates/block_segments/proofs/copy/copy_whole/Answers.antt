@@ -1,5 +1,4 @@
 -- `copy_whole` meets its contract. The loop's invariant: what is left to store, laid over the output, gives the whole. The measure is what is left. Assumes nothing.
-use Prim.Native.Nat.{◌-◌}
 use native.Mathlib.Omega.{arith}
 use Rattle.block_segments.proofs.Copying.{copying_all, all_copied, all-stored}
 use Rattle.block_segments.proofs.copy.copy_whole.Goals as goal

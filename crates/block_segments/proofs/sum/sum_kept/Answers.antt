@@ -1,5 +1,4 @@
 -- `sum_kept` meets its contract. The loop's invariant: what is left of the segment gives the whole. The measure is what is left. Assumes nothing.
-use Prim.Native.Nat.{◌-◌}
 use mathlib.Core.Bool.{true}
 use Rattle.block.specs.Check.{xor_all}
 use Rattle.block.proofs.Sums.{xor_all-nil, xor_all-append}

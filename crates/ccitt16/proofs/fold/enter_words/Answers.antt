@@ -1,7 +1,6 @@
 -- `enter_words` meets its contract. The loop's invariant: what is left, with what is yet to be added to it, gives the whole.
 -- Assumes nothing.
 use mathlib.Core.Path.{◌∙◌}
-use Prim.Native.Nat.{◌-◌}
 use native.Mathlib.Omega.{arith}
 use Rattle.division.proofs.Generators.{ccitt16_generator}
 use Rattle.words.proofs.Within.{word-within}

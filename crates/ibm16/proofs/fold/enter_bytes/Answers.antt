@@ -1,5 +1,4 @@
 -- `enter_bytes` meets its contract. The loop's invariant: what is left gives the whole. Assumes nothing.
-use Prim.Native.Nat.{◌-◌}
 use native.Mathlib.Omega.{arith}
 use borrow.Author.Rules.{rules}
 use Rattle.folding.proofs.Folding.{begin_bytes, turn_bytes, all_bytes}

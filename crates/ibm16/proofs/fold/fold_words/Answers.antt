@@ -1,7 +1,6 @@
 -- `fold_words` meets its contract. The loop's invariant: what is left, with what is yet to be added to it, gives the whole.
 -- Assumes nothing.
 use mathlib.Core.Path.{refl, ◌∙◌}
-use Prim.Native.Nat.{◌-◌}
 use native.Mathlib.Omega.{arith}
 use borrow.Author.Rules.{rules}
 use Rattle.words.proofs.Within.{word-within}
