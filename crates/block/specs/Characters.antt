@@ -8,7 +8,7 @@ use Rattle.block.specs.declared.Method.TheVariants as method
 use Rattle.block.specs.declared.Parity.{Parity}
 use Rattle.block.specs.declared.Parity.TheVariants.{Even, Odd}
 
--- methods 1 and 2 carry seven_bit characters, 3 and 4 eight_bit bytes
+-- methods 1 and 2 carry seven-bit characters, 3 and 4 eight-bit bytes
 abbrev pub is_seven : Method → Bool
 is_seven method.Parity = true
 is_seven method.Matrix = true

@@ -25,7 +25,7 @@ use Rattle.block_signs.specs.Signs.{Holds}
 use Rattle.block_signs.proofs.Few.{holds_two}
 use Rattle.block_checks.specs.Checked.{checked_bytes}
 
--- ---- eight_bit bytes are sent as they are
+-- ---- eight-bit bytes are sent as they are
 
 pub sent-eight : (p : Parity) (bs : List ℕ) → map (sent false p) bs ≡ bs
 unfolding sent

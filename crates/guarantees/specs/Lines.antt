@@ -44,7 +44,7 @@ pub record SameFraming (L : Lines) (A B : L.Line) : Type 0 where
 
 -- two unequal lines, both accepted, with one method, one length, one framing and one parity setting
 pub record TwoAccepted (L : Lines) (A B : L.Line) : Type 0 where
-  pub same_framing_lem : SameFraming L A B
+  pub same_framing : SameFraming L A B
   pub accepted : L.Accepted A × L.Accepted B
   pub unequal : A ≡ B → ⊥
 

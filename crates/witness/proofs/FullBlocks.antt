@@ -71,8 +71,8 @@ one_framing : framing_of method.Cyclic Even first ≡ framing_of method.Cyclic E
 unfolding sign_of character framed framing_of check_length check_of check_bits formula method3 divide remainder ccitt16 pack pack_into value low_bits bits_of xor
 one_framing = refl
 
-pub same_framing_lem : SameFraming (blocks method.Cyclic Even) first second
-same_framing_lem =
+pub same_framing : SameFraming (blocks method.Cyclic Even) first second
+same_framing =
     record {
       lines = (bytes_full 0x41 0xA3 (omega arith) (omega arith), bytes_full 0x43 0xA2 (omega arith) (omega arith));
       one_length = refl;
@@ -88,12 +88,12 @@ differ_apart = refl
 pub full_pair : TwoAccepted (blocks method.Cyclic Even) first second
 full_pair =
     record {
-      same_framing_lem = same_framing_lem;
+      same_framing = same_framing;
       accepted =
-          (accepted_first, (third_property.accepted_where_apart (method_3 Even) tt first second accepted_first same_framing_lem 1 32768 differ_apart).1 refl);
+          (accepted_first, (third_property.accepted_where_apart (method_3 Even) tt first second accepted_first same_framing 1 32768 differ_apart).1 refl);
       unequal = λ e. omega (arith, ap (λ (l : List ℕ). get_or l 1 0) e);
     }
 
 -- in exactly two bits
 pub two-bits : distance (blocks method.Cyclic Even) first second ≡ 2
-two-bits = (third_property.differ_where_checked (method_3 Even) first second same_framing_lem).1 ∙ ap length differ_apart
+two-bits = (third_property.differ_where_checked (method_3 Even) first second same_framing).1 ∙ ap length differ_apart

@@ -51,7 +51,7 @@ module _ (L : Lines) (framing : AcceptedHasFraming L) (A B : L.Line) where
       → {n : ℕ} → distance L A B ≡ suc n → TwoAccepted L A B
   two_accepted lines size one accepted d =
       record {
-        same_framing_lem = record { lines = lines; one_length = size; has_framing = framing A accepted.0; one_framing = one };
+        same_framing = record { lines = lines; one_length = size; has_framing = framing A accepted.0; one_framing = one };
         accepted = accepted;
         unequal = unequal d;
       }

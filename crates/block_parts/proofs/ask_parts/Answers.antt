@@ -1,13 +1,7 @@
 -- `ask_parts` meets its contract: at each `return` the questions passed on the way say which answer is the rule's. Assumes nothing.
-use mathlib.Core.Path.{◌≡◌, sym, ◌∙◌}
-use Prim.Native.Nat.{ℕ}
-use mathlib.Core.Bool.{Bool}
-use mathlib.Core.List.{List}
+use mathlib.Core.Path.{sym, ◌∙◌}
 use borrow.Author.Tests.{lt-ltb, le-ltb}
-use Rattle.block.specs.declared.Shape.{Shape}
-use Rattle.block.specs.Write.{WriteAnswer}
 use Rattle.block_scan.proofs.Bytes.{plain_free}
-use Rattle.block_parts.specs.Parts.{ask_parts}
 use Rattle.block_parts.proofs.Asking as asking
 use Rattle.block_parts.proofs.ask_parts.Goals as goal
 

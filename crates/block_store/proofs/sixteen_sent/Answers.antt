@@ -1,6 +1,5 @@
 -- `sixteen_sent` meets its contract. The loop's invariant: the bytes passed are those of the first characters. Assumes nothing.
 use mathlib.Core.Path.{◌≡◌, refl, sym, ◌∙◌}
-use Prim.Native.Nat.{◌-◌}
 use native.Mathlib.Omega.{arith}
 use lib.ListN.{length-set}
 use lib.Seq.{take_all}

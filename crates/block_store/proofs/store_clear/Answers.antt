@@ -1,6 +1,5 @@
 -- `store_clear` meets its contract. The loop's invariant: what is left to store gives the whole. The measure is what is left.
 -- Assumes nothing.
-use Prim.Native.Nat.{◌-◌}
 use Rattle.block.specs.Characters.{sent}
 use Rattle.block_store.proofs.Stores.{begin, turn, whole, escaped_on, escaped_out}
 use Rattle.block_store.proofs.store_clear.Goals as goal

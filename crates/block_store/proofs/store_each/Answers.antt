@@ -1,6 +1,5 @@
 -- `store_each` meets its contract. The loop's invariant: what is left to store gives the whole. The measure is what is left.
 -- Assumes nothing.
-use Prim.Native.Nat.{◌-◌}
 use native.Mathlib.Nat.{add-zero}
 use native.Mathlib.Omega.{arith}
 use Rattle.block.specs.Characters.{sent}

@@ -31,7 +31,7 @@ use Rattle.guarantees.proofs.Blocks.Columns.{EqualParities, equal_parities, dist
 
 pub distance-parity : (p : Parity) → AtLeast 2 (blocks method.Parity p)
 distance-parity p A B t =
-    let s = t.same_framing_lem in
+    let s = t.same_framing in
     let o = one_framing method.Parity p A B s in
     let ha = (all-passed method.Parity p A o.a).parities refl in
     let hb = (all-passed method.Parity p B o.b).parities refl in
@@ -110,7 +110,7 @@ module _ (p : Parity) (line : List ℕ) (r : Found method.Matrix p line) where
 
 module _ (p : Parity) (A B : List ℕ) (t : TwoAccepted (blocks method.Matrix p) A B) where
   o : OneFraming method.Matrix p A B
-  o = one_framing method.Matrix p A B t.same_framing_lem
+  o = one_framing method.Matrix p A B t.same_framing
 
   abbrev x : List ℕ
   x = checked p A o.a
@@ -130,7 +130,7 @@ module _ (p : Parity) (A B : List ℕ) (t : TwoAccepted (blocks method.Matrix p)
         arith,
         checked-length p A o.a,
         checked-length p B o.b,
-        length-checked (blocks method.Matrix p) (block_bridge method.Matrix p) A B t.same_framing_lem,
+        length-checked (blocks method.Matrix p) (block_bridge method.Matrix p) A B t.same_framing,
       )
 
   pairs : EqualParities x y
@@ -142,11 +142,11 @@ module _ (p : Parity) (A B : List ℕ) (t : TwoAccepted (blocks method.Matrix p)
   unequal : bits_of x ≡ bits_of y → ⊥
   unequal e =
       t.unequal
-      (equal_where_checked (blocks method.Matrix p) (block_bridge method.Matrix p) A B t.same_framing_lem (bits-x ∙ e ∙ sym bits-y))
+      (equal_where_checked (blocks method.Matrix p) (block_bridge method.Matrix p) A B t.same_framing (bits-x ∙ e ∙ sym bits-y))
 
   distance-checked : distance (blocks method.Matrix p) A B ≡ distance_of x y
   distance-checked =
-      (differ_where_checked (blocks method.Matrix p) (block_bridge method.Matrix p) A B t.same_framing_lem).1
+      (differ_where_checked (blocks method.Matrix p) (block_bridge method.Matrix p) A B t.same_framing).1
       ∙ length-differing (checked_bits method.Matrix p A) (checked_bits method.Matrix p B) ∙ ap₂ (λ a b. weight (xor_bits a b)) bits-x bits-y
 
   four : 4 ≤ distance_of x y

@@ -52,21 +52,21 @@ module _ (m : Parameters) (w : ℕ) (wide : OfWidth w m) (L : Lines) (bridge : B
   undetected : (A B : L.Line) → TwoAccepted L A B → Undetected m.generator (L.checked_bits A) (L.checked_bits B)
   undetected A B t =
       record {
-        one_length = length-checked L bridge A B t.same_framing_lem;
-        one_remainder = (accepted_remainder A B t.accepted.0 t.same_framing_lem).0 t.accepted.1;
+        one_length = length-checked L bridge A B t.same_framing;
+        one_remainder = (accepted_remainder A B t.accepted.0 t.same_framing).0 t.accepted.1;
       }
 
   pub no_burst : NoBurst w L
   no_burst A B t b h u =
       t.unequal
-      (equal_where_checked L bridge A B t.same_framing_lem
+      (equal_where_checked L bridge A B t.same_framing
       (burst m.generator (L.checked_bits A) (L.checked_bits B) wide.generator.constant (undetected A B t) b
       (omega (arith, wide.generator.width)) u))
 
   pub never_odd : EvenTerms m.generator → NeverOdd L
   never_odd terms A B t o =
       let e = even m.generator (L.checked_bits A) (L.checked_bits B) terms (undetected A B t) in
-      let n = (differ_where_checked L bridge A B t.same_framing_lem).1 in
+      let n = (differ_where_checked L bridge A B t.same_framing).1 in
       let l = length-differing (L.checked_bits A) (L.checked_bits B) in
       omega (arith, ap (λ x. x % 2) (n ∙ l))
 
@@ -93,20 +93,20 @@ module _ (m : Parameters) (w : ℕ) (wide : OfWidth w m) (L : Lines) (bridge : B
       few : distance L A B ≤ 2 → a ≡ L.checked_bits B
       few h =
           three_bits m.generator a (L.checked_bits B) wide.generator.constant (omega (arith, wide.generator.width))
-          (λ d p k. far d p (omega (arith, (pairs A B t.same_framing_lem).within))) (undetected A B t)
-          (omega (arith, (differ_where_checked L bridge A B t.same_framing_lem).1, length-differing a (L.checked_bits B)))
+          (λ d p k. far d p (omega (arith, (pairs A B t.same_framing).within))) (undetected A B t)
+          (omega (arith, (differ_where_checked L bridge A B t.same_framing).1, length-differing a (L.checked_bits B)))
 
       go : (b : Bool) → leb 3 (distance L A B) ≡ b → 3 ≤ distance L A B
       go true e = leb-true 3 (distance L A B) e
       go false e =
-          absurd (t.unequal (equal_where_checked L bridge A B t.same_framing_lem (few (omega (arith, leb-false 3 (distance L A B) e)))))
+          absurd (t.unequal (equal_where_checked L bridge A B t.same_framing (few (omega (arith, leb-false 3 (distance L A B) e)))))
 
   -- never odd, and two bits n apart do not fit into n checked bits
   pub at_least_four : EvenTerms m.generator → (n : ℕ) → 0 < n → OrderIs m.generator n (8 * m.limit + w - 1) → AtLeastBelow 4 (suc n) L
   at_least_four terms n pos order A B t few = go (differing_checked L A B) refl
     where
       counts : {ns : List ℕ} → differing_checked L A B ≡ ns → distance L A B ≡ length ns
-      counts e = (differ_where_checked L bridge A B t.same_framing_lem).1 ∙ ap length e
+      counts e = (differ_where_checked L bridge A B t.same_framing).1 ∙ ap length e
 
       go : (ns : List ℕ) → differing_checked L A B ≡ ns → 4 ≤ distance L A B
       go [] e = absurd (no_burst A B t 0 (omega arith) (rw e tt))
@@ -115,8 +115,8 @@ module _ (m : Parameters) (w : ℕ) (wide : OfWidth w m) (L : Lines) (bridge : B
           let a = L.checked_bits A in
           let b = L.checked_bits B in
           let d = two-differing a b i j e in
-          let q = (accepted_where_apart n pos order A B t.accepted.0 t.same_framing_lem i j e).0 t.accepted.1 in
-          let one = length-checked L bridge A B t.same_framing_lem in
+          let q = (accepted_where_apart n pos order A B t.accepted.0 t.same_framing i j e).0 t.accepted.1 in
+          let one = length-checked L bridge A B t.same_framing in
           absurd (omega (arith, d.apart, d.inside, length-xor a b one, one))
       go (i ∷ j ∷ k ∷ []) e = absurd (never_odd terms A B t (ap (λ x. x % 2) (counts e)))
       go (i ∷ j ∷ k ∷ l ∷ ns) e = omega (arith, counts e)

@@ -1,5 +1,4 @@
 -- `escaped_length` meets its contract. The loop's invariant: what is left to count gives the whole. The measure is what is left. Assumes nothing.
-use Prim.Native.Nat.{◌-◌}
 use native.Mathlib.Omega.{arith}
 use Rattle.block_writer.proofs.Lengths.{count_begin, count_one, count-two, count-all}
 use Rattle.block_writer.proofs.length.escaped_length.Goals as goal

@@ -1,6 +1,5 @@
 -- `hand_out` meets its contract. The loop's invariant: storing the bytes that the reader has still to give makes the whole. The measure is
 -- what is left of the line. Assumes nothing.
-use Prim.Native.Nat.{◌-◌}
 use native.Mathlib.Omega.{arith}
 use Rattle.frame_reader.proofs.HandingOut.{hand_begin, hand_ahead, hand_turn, hand_part, hand_end}
 use Rattle.frame_reader.proofs.content.hand_out.Goals as goal

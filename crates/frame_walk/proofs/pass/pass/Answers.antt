@@ -1,6 +1,5 @@
 -- `pass` meets its contract. The loop's invariant: what is left to pass gives the whole. The measure is what is left of the line.
 -- Assumes nothing.
-use Prim.Native.Nat.{◌-◌}
 use native.Mathlib.Omega.{arith}
 use Rattle.frame_walk.proofs.Passing.{pass_begin, pass_missing, pass_turn, pass_part, pass_end}
 use Rattle.frame_walk.proofs.pass.pass.Goals as goal

@@ -1,5 +1,4 @@
 -- `count_zeros` meets its contract: a turn counts the zeros of the next byte. Assumes nothing.
-use Prim.Native.Nat.{◌-◌}
 use native.Mathlib.Omega.{arith}
 use lib.ListN.{drop, get_or, length-drop}
 use Rattle.bits.proofs.Bytes.{length-bits_of}

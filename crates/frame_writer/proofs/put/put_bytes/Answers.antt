@@ -1,5 +1,5 @@
 -- `put_bytes` meets its contract: a turn puts the next byte. Assumes nothing.
-use Prim.Native.Nat.{◌+◌, ◌-◌}
+use Prim.Native.Nat.{◌+◌}
 use lib.ListN.{drop, get_or}
 use Rattle.bits.specs.Bytes.{low_bits, bits_of}
 use Rattle.frame_writer.proofs.Writers.{put_begin, room, put_turn, put_whole}
