@@ -36,7 +36,7 @@ block_output (writing.refusal number value) read out = out
 block_output (writing.written line) read out = reading.read_output read out
 
 abbrev pub block_trip : writing.WriteAnswer → reading.ReadAnswer → List ℕ → List ℕ → RoundTrip
-block_trip written read line out = returned (block_answer written read) (writing.write_output written line) (block_output written read out)
+block_trip wrote read line out = returned (block_answer wrote read) (writing.write_output wrote line) (block_output wrote read out)
 
 -- of the parts, the lent line and the lent output
 abbrev pub block_returns : Method → Parity → Shape → EndSign → List ℕ → List ℕ → List ℕ → List ℕ → RoundTrip

@@ -30,7 +30,7 @@ frame_output (writing.refusal number value) read out = out
 frame_output (writing.written frame) read out = reading.read_output read out
 
 abbrev pub frame_trip : writing.WriteAnswer → reading.ReadAnswer → List ℕ → List ℕ → RoundTrip
-frame_trip written read frame out = returned (frame_answer written read) (writing.write_output written frame) (frame_output written read out)
+frame_trip wrote read frame out = returned (frame_answer wrote read) (writing.write_output wrote frame) (frame_output wrote read out)
 
 -- of the content, the lent frame and the lent output
 abbrev pub frame_returns : Parameters → List ℕ → List ℕ → List ℕ → RoundTrip

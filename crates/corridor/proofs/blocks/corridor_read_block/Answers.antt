@@ -7,9 +7,6 @@ use Rattle.corridor.proofs.blocks.corridor_read_block.Goals as goal
 pub returns-in_default : goal.returns-in_default
 returns-in_default c = rw (sym c.link_of.ensures ∙ c.in_default.is)
 
-pub shape_of-out : goal.shape_of-out
-shape_of-out c = c.out-1.given
-
 pub returns : goal.returns
 returns c =
     rw (sym c.link_of.ensures ∙ c.in-Known.is)

@@ -11,9 +11,6 @@ pub returns-in_default-format_of : goal.returns-in_default-format_of
 returns-in_default-format_of c =
     rw (sym c.link_of.ensures ∙ c.in-Known.is, sym c.format_of.ensures ∙ c.in_default-format_of.is)
 
-pub shape_of-out : goal.shape_of-out
-shape_of-out c = c.out-1.given
-
 pub returns : goal.returns
 returns c =
     rw (sym c.link_of.ensures ∙ c.in-Known.is, sym c.format_of.ensures ∙ c.in-Known-format_of.is)

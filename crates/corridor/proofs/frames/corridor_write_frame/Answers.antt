@@ -7,9 +7,6 @@ use Rattle.corridor.proofs.frames.corridor_write_frame.Goals as goal
 pub returns-in_default : goal.returns-in_default
 returns-in_default c = rw (sym c.frame_method_of.ensures ∙ c.in_default.is)
 
-pub shape_of-out : goal.shape_of-out
-shape_of-out c = c.out-1.given
-
 pub returns : goal.returns
 returns c =
     rw (sym c.frame_method_of.ensures ∙ c.in-Known.is)
