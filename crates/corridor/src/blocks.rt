@@ -10,8 +10,7 @@ use codes::{FormatCode, LinkCode, format_of, link_of};
 
 // Reads one block. After a success the answer is shape, end sign, lengths of header and text, and the counted number; after a
 // refusal it is the refusal's place or needed bytes, then zeros.
-#[unsafe(no_mangle)]
-pub extern "C" fn corridor_read_block(
+pub fn corridor_read_block(
     method: u8,
     parity: u8,
     line: &[u8],
@@ -31,8 +30,7 @@ pub extern "C" fn corridor_read_block(
 }
 
 // Writes one block. The value is the length of the line, or the refusal's place or needed bytes.
-#[unsafe(no_mangle)]
-pub extern "C" fn corridor_write_block(
+pub fn corridor_write_block(
     method: u8,
     parity: u8,
     shape: u8,

@@ -10,8 +10,7 @@ use frame_writer::write_frame;
 
 // Reads the frame that is the first `bits` bits of the bytes lent. The value is the content's number of bytes, or the refusal's
 // place in bits or needed bytes.
-#[unsafe(no_mangle)]
-pub extern "C" fn corridor_read_frame(
+pub fn corridor_read_frame(
     method: u8,
     bits: usize,
     lent: &[u8],
@@ -30,13 +29,7 @@ pub extern "C" fn corridor_read_frame(
 }
 
 // Writes one frame. The value is its number of bits, or the needed bytes of a refusal.
-#[unsafe(no_mangle)]
-pub extern "C" fn corridor_write_frame(
-    method: u8,
-    content: &[u8],
-    out: &mut [u8],
-    value: &mut usize,
-) -> u32
+pub fn corridor_write_frame(method: u8, content: &[u8], out: &mut [u8], value: &mut usize) -> u32
     ensures { called result (value.new ∷ []) out.new ≡ write_frame_call method content.now out.old }
 {
     *value = 0;

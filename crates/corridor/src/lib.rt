@@ -1,8 +1,7 @@
-// The library for C and Rust: reading and writing blocks and frames, the number check, and the checks of methods 3 to 6, as
-// exported functions. A slice is passed as a pointer and then a length, a `&mut` number or array as a pointer. Methods, shapes
-// and refusals go by document 01's numbers; 0 is success. Every input is taken: a code outside its list answers 1, with an
-// answer of zeros. The output keeps every byte that a success does not name. Bit 0 of a check is its highest power and is sent
-// first.
+// The calls of the library for C and Rust: reading and writing blocks and frames, the number check, and the checks of methods 3 to 6.
+// Crate `corridor_c` exports them. Methods, shapes and refusals go by document 01's numbers; 0 is success. Every input is taken: a
+// code outside its list answers 1, with an answer of zeros. The output keeps every byte that a success does not name. Bit 0 of a
+// check is its highest power and is sent first.
 #![tactic(auto)]
 
 ghost use Rattle.std.specs.Prelude.{◌≡◌};
@@ -25,29 +24,25 @@ pub use numbers::corridor_receive;
 // The number of a code outside its list.
 pub(crate) const UNKNOWN_CODE: u32 = 1;
 
-#[unsafe(no_mangle)]
-pub extern "C" fn corridor_check_3(content: &[u8]) -> u16
+pub fn corridor_check_3(content: &[u8]) -> u16
     ensures { low_bits 16 result ≡ check_bits method3 (bits_of content.now) }
 {
     Cyclic3::check_of(content)
 }
 
-#[unsafe(no_mangle)]
-pub extern "C" fn corridor_check_4(content: &[u8]) -> u16
+pub fn corridor_check_4(content: &[u8]) -> u16
     ensures { low_bits 16 result ≡ check_bits method4 (bits_of content.now) }
 {
     Cyclic4::check_of(content)
 }
 
-#[unsafe(no_mangle)]
-pub extern "C" fn corridor_check_5(content: &[u8]) -> u16
+pub fn corridor_check_5(content: &[u8]) -> u16
     ensures { low_bits 16 result ≡ check_bits method5 (bits_of content.now) }
 {
     Cyclic5::check_of(content)
 }
 
-#[unsafe(no_mangle)]
-pub extern "C" fn corridor_check_6(content: &[u8]) -> u32
+pub fn corridor_check_6(content: &[u8]) -> u32
     ensures { low_bits 32 result ≡ check_bits method6 (bits_of content.now) }
 {
     Cyclic6::check_of(content)

@@ -1,0 +1,106 @@
+// The static library for C and Rust: the calls of crate `corridor` as exported functions, each with the contract of its call. A
+// slice is passed as a pointer and then a length, a `&mut` number or array as a pointer. include/corridor.h documents every call.
+#![tactic(auto)]
+
+ghost use Rattle.std.specs.Prelude.{◌≡◌, [], ◌∷◌};
+ghost use Rattle.bits.specs.Bytes.{low_bits, bits_of};
+ghost use Rattle.cyclic.specs.Check.{check_bits, method3, method4, method5, method6};
+ghost use Rattle.corridor.specs.Calls.{called, read_block_call, write_block_call, read_frame_call, write_frame_call, receive_call};
+
+#[unsafe(no_mangle)]
+pub extern "C" fn corridor_check_3(content: &[u8]) -> u16
+    ensures { low_bits 16 result ≡ check_bits method3 (bits_of content.now) }
+{
+    corridor::corridor_check_3(content)
+}
+
+#[unsafe(no_mangle)]
+pub extern "C" fn corridor_check_4(content: &[u8]) -> u16
+    ensures { low_bits 16 result ≡ check_bits method4 (bits_of content.now) }
+{
+    corridor::corridor_check_4(content)
+}
+
+#[unsafe(no_mangle)]
+pub extern "C" fn corridor_check_5(content: &[u8]) -> u16
+    ensures { low_bits 16 result ≡ check_bits method5 (bits_of content.now) }
+{
+    corridor::corridor_check_5(content)
+}
+
+#[unsafe(no_mangle)]
+pub extern "C" fn corridor_check_6(content: &[u8]) -> u32
+    ensures { low_bits 32 result ≡ check_bits method6 (bits_of content.now) }
+{
+    corridor::corridor_check_6(content)
+}
+
+#[unsafe(no_mangle)]
+pub extern "C" fn corridor_read_block(
+    method: u8,
+    parity: u8,
+    line: &[u8],
+    out: &mut [u8],
+    answer: &mut [usize; 5],
+) -> u32
+    ensures { called result answer.new out.new ≡ read_block_call method parity line.now out.old }
+{
+    corridor::corridor_read_block(method, parity, line, &mut *out, &mut *answer)
+}
+
+#[unsafe(no_mangle)]
+pub extern "C" fn corridor_write_block(
+    method: u8,
+    parity: u8,
+    shape: u8,
+    end_sign: u8,
+    header: &[u8],
+    text: &[u8],
+    out: &mut [u8],
+    value: &mut usize,
+) -> u32
+    ensures { called result (value.new ∷ []) out.new ≡ write_block_call method parity shape end_sign header.now text.now out.old }
+{
+    corridor::corridor_write_block(
+        method,
+        parity,
+        shape,
+        end_sign,
+        header,
+        text,
+        &mut *out,
+        &mut *value,
+    )
+}
+
+#[unsafe(no_mangle)]
+pub extern "C" fn corridor_read_frame(
+    method: u8,
+    bits: usize,
+    lent: &[u8],
+    out: &mut [u8],
+    value: &mut usize,
+) -> u32
+    ensures { called result (value.new ∷ []) out.new ≡ read_frame_call method bits lent.now out.old }
+{
+    corridor::corridor_read_frame(method, bits, lent, &mut *out, &mut *value)
+}
+
+#[unsafe(no_mangle)]
+pub extern "C" fn corridor_write_frame(
+    method: u8,
+    content: &[u8],
+    out: &mut [u8],
+    value: &mut usize,
+) -> u32
+    ensures { called result (value.new ∷ []) out.new ≡ write_frame_call method content.now out.old }
+{
+    corridor::corridor_write_frame(method, content, &mut *out, &mut *value)
+}
+
+#[unsafe(no_mangle)]
+pub extern "C" fn corridor_receive(n: u8, w: u8, c: u8, number: u8, answer: &mut [u8; 2]) -> u32
+    ensures { called result answer.new [] ≡ receive_call n w c number }
+{
+    corridor::corridor_receive(n, w, c, number, &mut *answer)
+}
