@@ -81,6 +81,22 @@ module _ (seven : Bool) (s : Shape) (head body : List ℕ) (next : WriteAnswer) 
   unfolding counted_length
   ask-count q h = ap (λ t. ask t 5 0 next) (sym q ∙ h)
 
+  -- behind the questions that are passed, the rule's answer is that of the next
+
+  pub to_header : {clear r : Bool} → clear ≡ is_clear s → seven && clear ≡ false → r ≡ fit → r ≡ true
+      → ask_parts seven s head body next ≡ header
+  to_header w h q f = ask_carried w h ∙ ask-fit q f
+
+  pub to_text : {clear r : Bool} {at : ℕ} → clear ≡ is_clear s → seven && clear ≡ false → r ≡ fit → r ≡ true
+      → at ≡ first_failing (is_free seven) 0 head → ltb at (length head) ≡ false → ask_parts seven s head body next ≡ text
+  to_text w h q f p l = to_header w h q f ∙ ask-header p l
+
+  pub to_count : {clear r : Bool} {at to : ℕ} → clear ≡ is_clear s → seven && clear ≡ false → r ≡ fit → r ≡ true
+      → at ≡ first_failing (is_free seven) 0 head → ltb at (length head) ≡ false
+      → to ≡ cond clear (length body) (first_failing (is_free seven) 0 body) → ltb to (length body) ≡ false
+      → ask_parts seven s head body next ≡ count
+  to_count w h q f p l o m = to_text w h q f p l ∙ ask-text w o m
+
 -- ---- parts that pass are short enough
 
 apart : {n v : ℕ} → refusal n v ≡ written [] → ⊥
