@@ -30,12 +30,13 @@ def block(text, start):
 
 
 def body(text, at):
-    """The body of the item whose head ends at `at`: the first brace that begins a line, or that ends the line of a type."""
-    found = re.compile(r"^[ ]*\{$|[^ ] \{$", re.M)
-    for m in found.finditer(text, at - 1):
-        line = text[text.rfind("\n", 0, m.end()) + 1:m.end()]
-        if not re.match(r"\s*(requires|ensures|ghost)", line):
-            return block(text, m.end() - 1)
+    """The body of the item whose head ends at `at`: the first brace that ends a line and is none of a clause. A declaration has none."""
+    for m in re.compile(r"[^\n]*\n").finditer(text, at):
+        line = m.group().rstrip()
+        if line.endswith(";"):
+            return ""
+        if line.endswith("{") and not re.match(r"\s*(requires|ensures|ghost)", line):
+            return block(text, m.start() + len(line) - 1)
     return ""
 
 

@@ -4,7 +4,7 @@
 #![tactic(auto)]
 
 // Of an answer to reading a block: its number, and shape, end sign, lengths of header and text and the counted number; of a refusal
-// its place or needed bytes, then zeros.
+// its place or needed bytes, then zeros: five places, as C lends them.
 #[derive(Clone, Copy)]
 pub struct BlockNumbers {
     pub number: u32,

@@ -1,10 +1,10 @@
-// The answers of the number check.
+// The answers of the number check, whose types stand in crate `number`: so the refusal's number is a function here and no `From`.
 ghost use Rattle.std.specs.Prelude.{◌≡◌};
 ghost use Rattle.number.specs.Answers.{number_of, verdict_of};
 ghost use Rattle.answers.specs.Numbers.{verdict_numbers};
 
 use crate::VerdictNumbers;
-use number::{NumberAnswer, NumberRefusal};
+use number::{NumberRefusal, Verdict};
 
 fn refusal_number(refusal: NumberRefusal) -> u32
     ensures { result ≡ number_of refusal }
@@ -17,23 +17,23 @@ fn refusal_number(refusal: NumberRefusal) -> u32
     }
 }
 
-pub fn received(answer: NumberAnswer) -> VerdictNumbers
+pub fn received(answer: Result<Verdict, NumberRefusal>) -> VerdictNumbers
     ensures { result ≡ verdict_numbers (verdict_of answer) }
 {
     match answer {
-        NumberAnswer::New => VerdictNumbers {
+        Ok(Verdict::New) => VerdictNumbers {
             number: 0,
             verdict: 1,
         },
-        NumberAnswer::Repeat => VerdictNumbers {
+        Ok(Verdict::Repeat) => VerdictNumbers {
             number: 0,
             verdict: 2,
         },
-        NumberAnswer::Lost => VerdictNumbers {
+        Ok(Verdict::Lost) => VerdictNumbers {
             number: 0,
             verdict: 3,
         },
-        NumberAnswer::Refused(refusal) => VerdictNumbers {
+        Err(refusal) => VerdictNumbers {
             number: refusal_number(refusal),
             verdict: 0,
         },

@@ -1,6 +1,7 @@
 -- Packing bits into bytes and unpacking them are inverse to each other. Assumes nothing.
 use mathlib.Core.Path.{◌≡◌, refl, sym, ap, ap₂, ◌∙◌}
-use Prim.Native.Nat.{ℕ, zero, suc, ◌+◌, ◌-◌, ◌*◌, ◌/◌, ◌%◌, ◌≤◌, ◌<◌}
+use Prim.Native.Nat.{ℕ, zero, suc, ◌+◌, ◌-◌, ◌*◌, ◌/◌, ◌%◌, ◌^◌, ◌≤◌, ◌<◌}
+use native.Mathlib.Nat.{div-div-eq-div-mul, pow-suc}
 use native.Mathlib.Omega.{arith}
 use mathlib.Core.Bool.{Bool, true, false}
 use mathlib.Core.List.{List, [], ◌∷◌, ◌++◌, append_assoc, append-nil}
@@ -9,6 +10,7 @@ use borrow.Author.Tests.{leb-true, leb-false}
 use lib.Pow.{pow_mono}
 use lib.ListN.{length, take, drop, length-take, length-drop, take-append-drop, drop_of_length-le}
 use lib.Seq.{take_all, take_at}
+use Rattle.std.specs.Int.{bytes_low_first}
 use Rattle.bits.specs.Strings.{zeros}
 use Rattle.bits.specs.Bytes.{low_bits, bits_of, Bytes, value, bytes_for, pack_into, pack}
 use Rattle.bits.proofs.Strings.{zeros-append}
@@ -105,3 +107,17 @@ bits_of-little_endian (suc n) x =
 
 pub pack-low_bits : (n x : ℕ) → pack (low_bits (8 * n) x) ≡ little_endian n x
 pack-low_bits n x = ap pack (sym (bits_of-little_endian n x)) ∙ pack-bits_of (little_endian n x) (bytes_little_endian n x)
+
+-- the bytes of std's `to_le_bytes`, from byte i on
+bytes_from : (i n x : ℕ) → bytes_low_first i n x ≡ little_endian n (x / 256 ^ i)
+bytes_from i zero x = refl
+bytes_from zero (suc n) x =
+    let here : x ≡ x / 256 ^ 0 = omega arith in
+    let next : x / 256 ^ 1 ≡ x / 256 ^ 0 / 256 = omega arith in
+    ap₂ (λ a b. a % 256 ∷ b) here (bytes_from 1 n x ∙ ap (little_endian n) next)
+bytes_from (suc i) (suc n) x =
+    let next : x / 256 ^ suc (suc i) ≡ x / 256 ^ suc i / 256 = ap (λ d. x / d) (pow-suc 256 (suc i)) ∙ sym (div-div-eq-div-mul x (256 ^ suc i) 256) in
+    ap (λ b. x / 256 ^ suc i % 256 ∷ b) (bytes_from (suc (suc i)) n x ∙ ap (little_endian n) next)
+
+pub le_bytes : (n x : ℕ) → bytes_low_first 0 n x ≡ little_endian n x
+le_bytes n x = let none : x / 256 ^ 0 ≡ x = omega arith in bytes_from 0 n x ∙ ap (little_endian n) none

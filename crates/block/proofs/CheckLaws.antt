@@ -13,10 +13,8 @@ use Rattle.bits.proofs.Bytes.{length-low_bits, low_bits-append, low_bits-mod, lo
 use Rattle.bits.proofs.Strings.{xor_bits_comm, xor_bits_assoc, xor_bits-zeros, length-xor}
 use Rattle.bits.proofs.Packing.{length-pack}
 use Rattle.cyclic.specs.Check.{Parameters, invert_if, check_bits, method3, method4}
-use Rattle.registers.specs.Register.{table_of}
 use Rattle.cyclic.specs.Laws.{OfWidth}
-use Rattle.generator16.specs.declared.Generator16.{Generator16}
-use Rattle.generator16.specs.Register.{generator_of, register_after}
+use Rattle.generator16.specs.Register.{register_after}
 use Rattle.registers.proofs.Table.{entered_by}
 use Rattle.cyclic.proofs.Checks.{length-check}
 use Rattle.cyclic.proofs.Methods.{check_of_lem, width_3, width_4}
@@ -30,11 +28,11 @@ use Rattle.block.specs.Check.{column_sums, matrix_check, check_of, xor_all, chec
 -- ---- registers of the cyclic methods
 
 -- a register that began at a method's start, and the number made of it, hold the check of the bytes that entered
-pub register_check : (m : Parameters) → OfWidth 16 m → (g : Generator16) → generator_of g ≡ m.generator → (bs : List ℕ) (check : ℕ) {start register : ℕ}
-    → low_bits 16 start ≡ m.start → start < 2 ^ 16 → register ≡ register_after g start bs
+pub register_check : (m : Parameters) → OfWidth 16 m → (bs : List ℕ) (check : ℕ) {start register : ℕ}
+    → low_bits 16 start ≡ m.start → start < 2 ^ 16 → register ≡ register_after m.generator start bs
     → low_bits 16 check ≡ invert_if m.inverted (low_bits 16 register) → low_bits 16 check ≡ check_bits m (bits_of bs)
-register_check m o g e bs check {start} {register} began fits r k =
-    check_of_lem 16 m o (lit< tt) (bits_of bs) start register check began (entered_by 8 m.generator o.generator.width start bs (ap (table_of 16) e) r fits) k
+register_check m o bs check {start} {register} began fits r k =
+    check_of_lem 16 m o (lit< tt) (bits_of bs) start register check began (entered_by 8 m.generator o.generator.width start bs refl r fits) k
 
 -- ---- the matrix's check character
 

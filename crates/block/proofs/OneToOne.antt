@@ -1,6 +1,7 @@
 -- Document 01's numbers tell every answer apart: each is read back from them. Assumes nothing.
 use mathlib.Core.Path.{◌≡◌, refl, sym, ap, ap₂, ◌∙◌}
 use Prim.Native.Nat.{ℕ}
+use Rattle.std.specs.Prelude.{Result, Ok, Err}
 use mathlib.Core.Bool.{cond}
 use lib.Dec.{eqb}
 use Rattle.block.specs.declared.Shape.{Shape}
@@ -9,12 +10,9 @@ use Rattle.block.specs.declared.EndSign.{EndSign}
 use Rattle.block.specs.declared.EndSign.TheVariants.{Etx, Etb, Us}
 use Rattle.block.specs.declared.ReadRefusal.{ReadRefusal}
 use Rattle.block.specs.declared.ReadRefusal.TheVariants as reading
-use Rattle.block.specs.declared.BlockRead.{BlockRead}
-use Rattle.block.specs.declared.BlockRead.TheVariants as read
+use Rattle.block.specs.declared.Block.{Block}
 use Rattle.block.specs.declared.WriteRefusal.{WriteRefusal}
 use Rattle.block.specs.declared.WriteRefusal.TheVariants as writing
-use Rattle.block.specs.declared.BlockWritten.{BlockWritten}
-use Rattle.block.specs.declared.BlockWritten.TheVariants as written
 use Rattle.block.specs.Signs.{ETX, ETB, end_byte}
 use Rattle.block.specs.Answers.{Numbers, block, line, refused, shape_number, read_number, read_value, of_read, write_number, write_value, of_written}
 
@@ -71,19 +69,19 @@ read_refusal_back reading.TooManyCounted = refl
 read_refusal_back reading.WrongCheck = refl
 read_refusal_back (reading.OutputShort needed) = refl
 
-read_from : Numbers → BlockRead
-read_from (block s e h t c) = read.Taken (record { shape = shape_from s; end = end_from e; header = h; text = t; counted = c })
-read_from (line n) = read.Refused reading.NoEnd
-read_from (refused n v) = read.Refused (read_refusal_from n v)
+read_from : Numbers → Result Block ReadRefusal
+read_from (block s e h t c) = Ok (record { shape = shape_from s; end = end_from e; header = h; text = t; counted = c })
+read_from (line n) = Err reading.NoEnd
+read_from (refused n v) = Err (read_refusal_from n v)
 
-read_back : (r : BlockRead) → read_from (of_read r) ≡ r
+read_back : (r : Result Block ReadRefusal) → read_from (of_read r) ≡ r
 unfolding read_from
-read_back (read.Taken b) =
-    ap₂ (λ (s : Shape) (e : EndSign). read.Taken (record { shape = s; end = e; header = b.header; text = b.text; counted = b.counted })) (shape_back b.shape)
+read_back (Ok b) =
+    ap₂ (λ (s : Shape) (e : EndSign). Ok (record { shape = s; end = e; header = b.header; text = b.text; counted = b.counted })) (shape_back b.shape)
     (end_back b.end)
-read_back (read.Refused r) = ap read.Refused (read_refusal_back r)
+read_back (Err r) = ap Err (read_refusal_back r)
 
-pub of_read_injective : (r s : BlockRead) → of_read r ≡ of_read s → r ≡ s
+pub of_read_injective : (r s : Result Block ReadRefusal) → of_read r ≡ of_read s → r ≡ s
 of_read_injective r s e = sym (read_back r) ∙ ap read_from e ∙ read_back s
 
 -- ---- writing
@@ -105,15 +103,15 @@ write_refusal_back writing.PartNotEmpty = refl
 write_refusal_back writing.TooManyCounted = refl
 write_refusal_back (writing.OutputShort needed) = refl
 
-written_from : Numbers → BlockWritten
-written_from (block s e h t c) = written.Written h
-written_from (line n) = written.Written n
-written_from (refused n v) = written.Refused (write_refusal_from n v)
+written_from : Numbers → Result ℕ WriteRefusal
+written_from (block s e h t c) = Ok h
+written_from (line n) = Ok n
+written_from (refused n v) = Err (write_refusal_from n v)
 
-written_back : (w : BlockWritten) → written_from (of_written w) ≡ w
+written_back : (w : Result ℕ WriteRefusal) → written_from (of_written w) ≡ w
 unfolding written_from
-written_back (written.Written n) = refl
-written_back (written.Refused r) = ap written.Refused (write_refusal_back r)
+written_back (Ok n) = refl
+written_back (Err r) = ap Err (write_refusal_back r)
 
-pub of_written_injective : (v w : BlockWritten) → of_written v ≡ of_written w → v ≡ w
+pub of_written_injective : (v w : Result ℕ WriteRefusal) → of_written v ≡ of_written w → v ≡ w
 of_written_injective v w e = sym (written_back v) ∙ ap written_from e ∙ written_back w

@@ -1,5 +1,5 @@
 -- Document 01's numbers and values for each case of the answers. Assumes nothing.
-use Rattle.std.specs.Prelude.{ℕ, List, length}
+use Rattle.std.specs.Prelude.{ℕ, List, length, Result, Ok, Err}
 use Rattle.bits.specs.Calls.{Call, called}
 use Rattle.block.specs.declared.Method.{Method}
 use Rattle.block.specs.declared.Parity.{Parity}
@@ -8,12 +8,9 @@ use Rattle.block.specs.declared.Shape.TheVariants as shape
 use Rattle.block.specs.declared.EndSign.{EndSign}
 use Rattle.block.specs.declared.ReadRefusal.{ReadRefusal}
 use Rattle.block.specs.declared.ReadRefusal.TheVariants as reading
-use Rattle.block.specs.declared.BlockRead.{BlockRead}
-use Rattle.block.specs.declared.BlockRead.TheVariants as read
+use Rattle.block.specs.declared.Block.{Block}
 use Rattle.block.specs.declared.WriteRefusal.{WriteRefusal}
 use Rattle.block.specs.declared.WriteRefusal.TheVariants as writing
-use Rattle.block.specs.declared.BlockWritten.{BlockWritten}
-use Rattle.block.specs.declared.BlockWritten.TheVariants as written
 use Rattle.block.specs.Signs.{end_byte}
 use Rattle.block.specs.Read as reads
 use Rattle.block.specs.Write as writes
@@ -56,9 +53,9 @@ read_value reading.TooManyCounted = 0
 read_value reading.WrongCheck = 0
 read_value (reading.OutputShort needed) = needed
 
-abbrev pub of_read : BlockRead → Numbers
-of_read (read.Taken b) = block (shape_number b.shape) (end_byte b.end) b.header b.text b.counted
-of_read (read.Refused r) = refused (read_number r) (read_value r)
+abbrev pub of_read : Result Block ReadRefusal → Numbers
+of_read (Ok b) = block (shape_number b.shape) (end_byte b.end) b.header b.text b.counted
+of_read (Err r) = refused (read_number r) (read_value r)
 
 abbrev pub write_number : WriteRefusal → ℕ
 write_number writing.NotCarried = 1
@@ -76,9 +73,9 @@ write_value writing.PartNotEmpty = 0
 write_value writing.TooManyCounted = 0
 write_value (writing.OutputShort needed) = needed
 
-abbrev pub of_written : BlockWritten → Numbers
-of_written (written.Written bytes) = line bytes
-of_written (written.Refused r) = refused (write_number r) (write_value r)
+abbrev pub of_written : Result ℕ WriteRefusal → Numbers
+of_written (Ok bytes) = line bytes
+of_written (Err r) = refused (write_number r) (write_value r)
 
 -- the rules' answers in the same numbers
 abbrev pub of_read_answer : reads.ReadAnswer → Numbers

@@ -25,11 +25,5 @@ pub fn check_length(m: Method) -> usize
 pub fn sum_slice(start: u8, part: &[u8]) -> u8
     ensures { result ≡ xor_all start part.now }
 {
-    let mut sum = start;
-    let mut i = 0;
-    while i < part.len() {
-        sum = sum ^ part[i];
-        i += 1;
-    }
-    sum
+    part.iter().fold(start, |sum, b| sum ^ *b)
 }

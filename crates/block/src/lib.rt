@@ -20,8 +20,15 @@ pub enum Parity {
     Odd,
 }
 
-// Shapes 1 to 5. Clear text is document 01's word for transparent text.
+// What a link has agreed. Methods 3 and 4 do without the parity.
 #[derive(Clone, Copy)]
+pub struct Link {
+    pub method: Method,
+    pub parity: Parity,
+}
+
+// Shapes 1 to 5. Clear text is document 01's word for transparent text.
+#[derive(Clone, Copy, PartialEq, Eq)]
 pub enum Shape {
     Header,
     Text,
@@ -30,11 +37,20 @@ pub enum Shape {
     HeaderClearText,
 }
 
-#[derive(Clone, Copy)]
+#[derive(Clone, Copy, PartialEq, Eq)]
 pub enum EndSign {
     Etx,
     Etb,
     Us,
+}
+
+// What a block to be written holds.
+#[derive(Clone, Copy)]
+pub struct Parts<'a> {
+    pub shape: Shape,
+    pub end: EndSign,
+    pub header: &'a [u8],
+    pub text: &'a [u8],
 }
 
 // A place in a line or a part, in bytes from 0.
@@ -76,12 +92,6 @@ pub enum ReadRefusal {
 }
 
 #[derive(Clone, Copy)]
-pub enum BlockRead {
-    Taken(Block),
-    Refused(ReadRefusal),
-}
-
-#[derive(Clone, Copy)]
 pub enum WriteRefusal {
     // 1: the method does not carry the shape
     NotCarried,
@@ -95,13 +105,6 @@ pub enum WriteRefusal {
     TooManyCounted,
     // 6: the bytes needed
     OutputShort(usize),
-}
-
-#[derive(Clone, Copy)]
-pub enum BlockWritten {
-    // The length of the line.
-    Written(usize),
-    Refused(WriteRefusal),
 }
 
 // What a byte of a line is. All but what is left out is counted.
@@ -142,4 +145,4 @@ mod signs;
 
 pub use check::{COUNTED_LIMIT, check_length, sum_slice};
 pub use shapes::is_clear;
-pub use signs::{DLE, ETB, ETX, GREATEST_SIGN, SOH, STX, SYN, US, character, end_byte, is_seven};
+pub use signs::{DLE, ETB, ETX, GREATEST_SIGN, SOH, STX, SYN, US, character, is_seven};

@@ -22,13 +22,16 @@ pub const US: u8 = 0x1F;
 // What is above it is no sign: so is most of a text.
 pub const GREATEST_SIGN: u8 = US;
 
-pub fn end_byte(e: EndSign) -> u8
-    ensures { result ≡ end_byte e }
-{
-    match e {
-        EndSign::Etx => ETX,
-        EndSign::Etb => ETB,
-        EndSign::Us => US,
+// The byte of an end sign.
+impl From<EndSign> for u8 {
+    ghost from_gives = { λ end byte. byte ≡ end_byte end };
+
+    fn from(end: EndSign) -> u8 {
+        match end {
+            EndSign::Etx => ETX,
+            EndSign::Etb => ETB,
+            EndSign::Us => US,
+        }
     }
 }
 

@@ -1,5 +1,6 @@
 // The answers of the block calls in document 01's numbers: 0 for success or the number of the refusal, and the values that go with
-// it. Every answer has its numbers, by the rules of crate answers.
+// it. Every answer has its numbers, by the rules of crate answers. The answers' types stand in crate `block` and those of the numbers in
+// `answers`, so each conversion is a function here and no `From`.
 #![tactic(auto)]
 
 ghost use Rattle.std.specs.Prelude.{◌≡◌};
@@ -7,7 +8,7 @@ ghost use Rattle.block.specs.Answers.{shape_number, read_number, read_value, wri
 ghost use Rattle.answers.specs.Numbers.{block_values, read_numbers, value_numbers, written_numbers};
 
 use answers::{BlockNumbers, ValueNumbers, numbers};
-use block::{Block, BlockRead, BlockWritten, ReadRefusal, Shape, WriteRefusal, end_byte};
+use block::{Block, ReadRefusal, Shape, WriteRefusal};
 
 pub fn shape_number(s: Shape) -> usize
     ensures { result ≡ shape_number s }
@@ -40,28 +41,28 @@ fn read_refusal(refusal: ReadRefusal) -> ValueNumbers
 
 // What an accepted block holds.
 fn parts_of(b: Block) -> [usize; 5]
-    ensures { result ≡ block_values (of_read (BlockRead.Taken b)) }
+    ensures { result ≡ block_values (of_read (Ok b)) }
 {
     let shape = b.shape;
     let end = b.end;
     [
         shape_number(shape),
-        end_byte(end) as usize,
+        u8::from(end) as usize,
         b.header,
         b.text,
         b.counted,
     ]
 }
 
-pub fn block_read(read: BlockRead) -> BlockNumbers
+pub fn block_read(read: Result<Block, ReadRefusal>) -> BlockNumbers
     ensures { result ≡ read_numbers (of_read read) }
 {
     match read {
-        BlockRead::Taken(b) => BlockNumbers {
+        Ok(b) => BlockNumbers {
             number: 0,
             values: parts_of(b),
         },
-        BlockRead::Refused(refusal) => {
+        Err(refusal) => {
             let refused = read_refusal(refusal);
             BlockNumbers {
                 number: refused.number,
@@ -84,11 +85,11 @@ fn write_refusal(refusal: WriteRefusal) -> ValueNumbers
     }
 }
 
-pub fn block_written(written: BlockWritten) -> ValueNumbers
+pub fn block_written(written: Result<usize, WriteRefusal>) -> ValueNumbers
     ensures { result ≡ written_numbers (of_written written) }
 {
     match written {
-        BlockWritten::Written(bytes) => numbers(0, bytes),
-        BlockWritten::Refused(refusal) => write_refusal(refusal),
+        Ok(bytes) => numbers(0, bytes),
+        Err(refusal) => write_refusal(refusal),
     }
 }

@@ -1,6 +1,6 @@
 -- The number of a check: one slice after the other, a sum apart from its start, and the check of all the bytes. Assumes nothing.
 use mathlib.Core.Path.{◌≡◌, refl, sym, ap, ap₂, ◌∙◌}
-use Prim.Native.Nat.{ℕ, zero, suc, ◌+◌, ◌%◌, ◌^◌, ◌<◌}
+use Prim.Native.Nat.{ℕ, zero, suc, ◌+◌, ◌*◌, ◌%◌, ◌^◌, ◌<◌}
 use native.Mathlib.Omega.{arith}
 use native.Mathlib.Nat.{lt_of_lt_of_le, mod-eq_of_lt}
 use mathlib.Core.Bool.{Bool, true, false, cond, not, xor}
@@ -9,15 +9,14 @@ use lib.Bits.{bit_xor, xor_lt, xor_zero_r}
 use lib.ListN.{length, length-map}
 use lib.Pow.{pow_mono}
 use Rattle.bits.specs.Strings.{xor_bits, parity}
-use Rattle.bits.specs.Bytes.{low_bits, bits_of, value}
+use Rattle.bits.specs.Bytes.{low_bits, bits_of, bytes_for, value}
 use Rattle.bits.proofs.Strings.{xor_bits_assoc}
 use Rattle.bits.proofs.Bytes.{low_bits_injective, low_bits-mod, low_bits-xor, low_bits-value, length-low_bits, value_lt, value-low_bits}
+use Rattle.division.specs.Generators.{ccitt16, ibm16}
 use Rattle.cyclic.specs.Check.{Parameters, Constants, invert_if, check_bits, method3, method4}
 use Rattle.cyclic.specs.Laws.{OfWidth}
 use Rattle.cyclic.proofs.Methods.{width_3, width_4, began}
-use Rattle.generator16.specs.declared.Generator16.{Generator16}
-use Rattle.generator16.specs.declared.Generator16.TheVariants.{Ccitt, Ibm}
-use Rattle.generator16.specs.Register.{generator_of, register_after}
+use Rattle.generator16.specs.Register.{register_after}
 use Rattle.generator16.proofs.Registers.{after-append}
 use Rattle.block.specs.declared.Method.{Method}
 use Rattle.block.specs.declared.Method.TheVariants as method
@@ -63,8 +62,8 @@ pub number_append : (m : Method) (n : ℕ) (xs ys : List ℕ) → number_after m
 unfolding number_after
 number_append method.Parity n xs ys = refl
 number_append method.Matrix n xs ys = xor_all-append n xs ys
-number_append method.Cyclic n xs ys = after-append Ccitt n xs ys
-number_append method.CyclicAlternative n xs ys = after-append Ibm n xs ys
+number_append method.Cyclic n xs ys = after-append ccitt16 n xs ys
+number_append method.CyclicAlternative n xs ys = after-append ibm16 n xs ys
 
 -- ---- the start of methods 3 and 4
 
@@ -76,26 +75,38 @@ length-invert_if true s = length-map s not
 length-invert_if false s = refl
 
 -- a register that began at a method's start holds its check
-from_start : (m : Parameters) → OfWidth 16 m → (g : Generator16) → generator_of g ≡ m.generator → (bs : List ℕ)
-    → invert_if m.inverted (low_bits 16 (register_after g (value m.start) bs)) ≡ check_bits m (bits_of bs)
-from_start m o g e bs =
-    let r = register_after g (value m.start) bs in
+from_start : (m : Parameters) → OfWidth 16 m → (bs : List ℕ)
+    → invert_if m.inverted (low_bits 16 (register_after m.generator (value m.start) bs)) ≡ check_bits m (bits_of bs)
+from_start m o bs =
+    let r = register_after m.generator (value m.start) bs in
     let sent = invert_if m.inverted (low_bits 16 r) in
     let l : length sent ≡ 16 = length-invert_if m.inverted (low_bits 16 r) ∙ length-low_bits 16 r in
     let k = value-bits 16 sent l in
-    sym k ∙ register_check m o g e bs (value sent) (value-bits 16 m.start o.start-length) (omega (arith, value_lt m.start, ap (λ n. 2 ^ n) o.start-length)) refl k
+    sym k ∙ register_check m o bs (value sent) (value-bits 16 m.start o.start-length) (omega (arith, value_lt m.start, ap (λ n. 2 ^ n) o.start-length)) refl k
 
 pub check-after : (m : Method) (p : Parity) (bs : List ℕ) → check_from m p (number_after m (start_of m) bs) ≡ check_of m p bs
 unfolding number_after check_from check_of method3 method4
 check-after method.Parity p bs = refl
 check-after method.Matrix p bs = sym (matrix_character p bs)
-check-after method.Cyclic p bs = from_start method3 width_3 Ccitt refl bs
-check-after method.CyclicAlternative p bs = from_start method4 width_4 Ibm refl bs
+check-after method.Cyclic p bs = from_start method3 width_3 bs
+check-after method.CyclicAlternative p bs = from_start method4 width_4 bs
 
 -- a new register's number is that of the method's start
 pub start-number : {m : Parameters} {register polynomial start limit : ℕ} → Constants m register 16 polynomial start limit → register < 2 ^ 16
     → register ≡ value m.start
 start-number {register = r} k h = sym (mod-eq_of_lt h) ∙ sym (value-low_bits 16 r) ∙ ap value (began k)
+
+-- a check fills its bytes
+pub whole_bytes : (m : Method) (p : Parity) (n : ℕ) → 8 * bytes_for (length (check_from m p n)) ≡ length (check_from m p n)
+unfolding check_from method3 method4 low_bits
+whole_bytes method.Parity p n = refl
+whole_bytes method.Matrix p n = refl
+whole_bytes method.Cyclic p n =
+    let l : length (check_from method.Cyclic p n) ≡ 16 = length-invert_if true (low_bits 16 n) ∙ length-low_bits 16 n in
+    rw l
+whole_bytes method.CyclicAlternative p n =
+    let l : length (check_from method.CyclicAlternative p n) ≡ 16 = length-invert_if false (low_bits 16 n) ∙ length-low_bits 16 n in
+    rw l
 
 -- the character of a sum goes by its low bits
 pub with_parity-low : (p : Parity) (n : ℕ) → with_parity p (n % 256) ≡ with_parity p n

@@ -1,8 +1,8 @@
 -- The number that a check adds up over bytes, method by method, and the check that it stands for. Assumes nothing.
 use Rattle.std.specs.Prelude.{ℕ, Bool, List, []}
 use Rattle.bits.specs.Bytes.{low_bits, value}
+use Rattle.division.specs.Generators.{ccitt16, ibm16}
 use Rattle.cyclic.specs.Check.{invert_if, method3, method4}
-use Rattle.generator16.specs.declared.Generator16.TheVariants.{Ccitt, Ibm}
 use Rattle.generator16.specs.Register.{register_after}
 use Rattle.block.specs.declared.Method.{Method}
 use Rattle.block.specs.declared.Method.TheVariants as method
@@ -21,8 +21,8 @@ start_of method.CyclicAlternative = value method4.start
 unfoldable pub number_after : Method → ℕ → List ℕ → ℕ
 number_after method.Parity number bs = number
 number_after method.Matrix number bs = xor_all number bs
-number_after method.Cyclic number bs = register_after Ccitt number bs
-number_after method.CyclicAlternative number bs = register_after Ibm number bs
+number_after method.Cyclic number bs = register_after ccitt16 number bs
+number_after method.CyclicAlternative number bs = register_after ibm16 number bs
 
 -- the check in the order sent
 unfoldable pub check_from : Method → Parity → ℕ → List Bool

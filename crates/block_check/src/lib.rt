@@ -6,4 +6,4 @@ mod number;
 mod sent;
 
 pub use number::{add_one, add_run, add_segment, start_of};
-pub use sent::is_check;
+pub use sent::{check_from, is_check};

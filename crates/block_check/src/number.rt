@@ -1,4 +1,5 @@
-// The number that a check adds up over bytes.
+// The number that a check adds up over bytes. The methods are a closed list, and each match shows its four cases side by side, as the
+// papers do; a trait with a type for each method would spread them.
 ghost use Rattle.std.specs.Prelude.{◌≡◌, false, [], ◌∷◌};
 ghost use Rattle.block.specs.Characters.{is_seven};
 ghost use Rattle.block_framing.specs.Framings.{kept_bytes};
@@ -8,9 +9,12 @@ ghost use Rattle.block_check.specs.Numbers.{start_of, number_after};
 use block::{Method, sum_slice};
 use block_register::enter_kept;
 use block_segments::sum_kept;
+use ccitt16::Ccitt16;
+use cyclic::Cyclic;
 use cyclic3::Cyclic3;
 use cyclic4::Cyclic4;
-use generator16::{Generator16, enter_one, enter_run};
+use generator16::{enter_one, enter_run};
+use ibm16::Ibm16;
 
 // The number before any byte.
 pub fn start_of(m: Method) -> u16
@@ -37,8 +41,8 @@ pub fn add_one(m: Method, number: u16, b: u8) -> u16
     match m {
         Method::Parity => number,
         Method::Matrix => number ^ (b as u16),
-        Method::Cyclic => enter_one(Generator16::Ccitt, number, b),
-        Method::CyclicAlternative => enter_one(Generator16::Ibm, number, b),
+        Method::Cyclic => enter_one::<Ccitt16>(number, b),
+        Method::CyclicAlternative => enter_one::<Ibm16>(number, b),
     }
 }
 
@@ -49,8 +53,8 @@ pub fn add_run(m: Method, number: u16, run: &[u8]) -> u16
     match m {
         Method::Parity => number,
         Method::Matrix => number ^ (sum_slice(0, run) as u16),
-        Method::Cyclic => enter_run(Generator16::Ccitt, number, run),
-        Method::CyclicAlternative => enter_run(Generator16::Ibm, number, run),
+        Method::Cyclic => enter_run::<Ccitt16>(number, run),
+        Method::CyclicAlternative => enter_run::<Ibm16>(number, run),
     }
 }
 
@@ -61,8 +65,8 @@ fn add_kept(m: Method, number: u16, clear: bool, part: &[u8]) -> u16
     match m {
         Method::Parity => number,
         Method::Matrix => number ^ (sum_kept(0, clear, part) as u16),
-        Method::Cyclic => enter_kept(Generator16::Ccitt, number, clear, part),
-        Method::CyclicAlternative => enter_kept(Generator16::Ibm, number, clear, part),
+        Method::Cyclic => enter_kept::<Ccitt16>(number, clear, part),
+        Method::CyclicAlternative => enter_kept::<Ibm16>(number, clear, part),
     }
 }
 

@@ -1,56 +1,38 @@
-// A received check against the number of the counted bytes.
+// The check that the number of the counted bytes stands for, and a received check against it.
 ghost use Rattle.std.specs.Prelude.{◌≡◌};
 ghost use Rattle.bits.specs.Strings.{same};
-ghost use Rattle.bits.specs.Bytes.{low_bits, bits_of};
+ghost use Rattle.bits.specs.Bytes.{bits_of, pack};
 ghost use Rattle.block_check.specs.Numbers.{check_from};
 
-use block::{Method, Parity};
+use block::{Link, Method};
 use block_parity::with_parity;
+use block_signs::FewBytes;
+use cyclic::Cyclic;
 use cyclic3::Cyclic3;
 use cyclic4::Cyclic4;
 use registers::sent16;
 
-// Whether bytes are one byte.
-fn is_byte(b: u8, received: &[u8]) -> bool
-    ensures { result ≡ same (bits_of received.now) (low_bits 8 b) }
+// The check in the order sent: none, one byte or two. The four cases stand side by side, as in `number`.
+pub fn check_from(link: Link, number: u16) -> FewBytes
+    ensures { result ≡ pack (check_from link.method link.parity number) }
 {
-    if received.len() != 1 {
-        return false;
-    }
-    received[0] == b
-}
-
-// Whether bytes are a check of 16 bits, as it is sent.
-fn is_sent(check: u16, received: &[u8]) -> bool
-    ensures { result ≡ same (bits_of received.now) (low_bits 16 check) }
-{
-    if received.len() != 2 {
-        return false;
-    }
-    let sent = sent16(check);
-    if received[0] == sent[0] {
-        received[1] == sent[1]
-    } else {
-        false
+    match link.method {
+        Method::Parity => FewBytes::none(),
+        Method::Matrix => FewBytes::one(with_parity(link.parity, (number % 256) as u8)),
+        Method::Cyclic => {
+            let cyclic = Cyclic3 { register: number };
+            FewBytes::two(sent16(cyclic.check()))
+        }
+        Method::CyclicAlternative => {
+            let cyclic = Cyclic4 { register: number };
+            FewBytes::two(sent16(cyclic.check()))
+        }
     }
 }
 
 // Whether bytes are the check that a number stands for.
-pub fn is_check(m: Method, p: Parity, number: u16, received: &[u8]) -> bool
-    ensures { result ≡ same (bits_of received.now) (check_from m p number) }
+pub fn is_check(link: Link, number: u16, received: &[u8]) -> bool
+    ensures { result ≡ same (bits_of received.now) (check_from link.method link.parity number) }
 {
-    match m {
-        Method::Parity => received.len() == 0,
-        Method::Matrix => is_byte(with_parity(p, (number % 256) as u8), received),
-        Method::Cyclic => {
-            let mut cyclic = Cyclic3::new();
-            cyclic.register = number;
-            is_sent(cyclic.check(), received)
-        }
-        Method::CyclicAlternative => {
-            let mut cyclic = Cyclic4::new();
-            cyclic.register = number;
-            is_sent(cyclic.check(), received)
-        }
-    }
+    received == check_from(link, number).as_slice()
 }

@@ -17,11 +17,11 @@ text_signs Text = 1
 text_signs Clear = 0
 text_signs ClearDle = 2
 
--- the shape of a line with so many signs before its text, and its inner start at the place `inner`
-unfoldable pub shape_at : ℕ → ℕ → Shape
-shape_at signs inner =
+-- the shape of a line with so many signs before its text, and with an inner start or without
+unfoldable pub shape_at : ℕ → Bool → Shape
+shape_at signs has_inner =
     cond (eqb signs 0) shape.Header
-    (cond (eqb inner 0) (cond (eqb signs 1) shape.Text shape.ClearText) (cond (eqb signs 1) shape.HeaderText shape.HeaderClearText))
+    (cond has_inner (cond (eqb signs 1) shape.HeaderText shape.HeaderClearText) (cond (eqb signs 1) shape.Text shape.ClearText))
 
 unfoldable pub is_fill : Bool → ℕ → Bool
 is_fill seven b = is_syn (sign_of (character seven b))

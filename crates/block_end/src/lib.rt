@@ -9,6 +9,7 @@ ghost use Rattle.block.specs.Scan.{first_failing};
 ghost use Rattle.block_end.specs.Ends.{text_signs, shape_at, is_fill};
 
 use block::{Field, ReadRefusal, SYN, Shape, character};
+use runs::{ByteTest, short_run};
 
 // The line ends before an end sign.
 pub fn cut(f: Field) -> ReadRefusal
@@ -40,38 +41,45 @@ pub fn text_signs(f: Field) -> usize
     }
 }
 
-// The shape of a line with so many signs before its text, and its inner start at the place `inner`, 0 where it has none.
-pub fn shape_at(signs: usize, inner: usize) -> Shape
-    ensures { result ≡ shape_at signs inner }
+// The shape of a line with so many signs before its text, and with an inner start or without.
+#[tactic(auto, unfolding(crate::specs::Ends::shape_at))]
+pub fn shape_at(signs: usize, has_inner: bool) -> Shape
+    ensures { result ≡ shape_at signs has_inner }
 {
     if signs == 0 {
         return Shape::Header;
     }
-    if inner == 0 {
-        if signs == 1 {
-            Shape::Text
-        } else {
-            Shape::ClearText
-        }
-    } else {
+    if has_inner {
         if signs == 1 {
             Shape::HeaderText
         } else {
             Shape::HeaderClearText
         }
+    } else {
+        if signs == 1 {
+            Shape::Text
+        } else {
+            Shape::ClearText
+        }
     }
 }
 
-// How many SYN stand ahead of the start.
+#[derive(Clone, Copy)]
+struct Fill {
+    seven: bool,
+}
+
+impl ByteTest for Fill {
+    ghost passing = { λ test. is_fill test.seven };
+
+    fn passes(self, b: u8) -> bool {
+        character(self.seven, b) == SYN
+    }
+}
+
+// How many SYN stand ahead of the start: mostly none.
 pub fn fill_ahead(seven: bool, line: &[u8]) -> usize
     ensures { result ≡ first_failing (is_fill seven) 0 line.now }
 {
-    let mut i = 0;
-    while i < line.len() {
-        if character(seven, line[i]) != SYN {
-            return i;
-        }
-        i += 1;
-    }
-    i
+    short_run(Fill { seven }, line)
 }

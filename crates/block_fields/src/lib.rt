@@ -1,6 +1,6 @@
 // What a character is in its field (document 01, part 3): `judge` has one match for each field, by the character's value. It takes
 // every input.
-#![tactic(auto)]
+#![tactic(auto, using(block::proofs::NoSign::no_sign), unfolding(block::specs::Signs::sign_of))]
 
 ghost use Rattle.std.specs.Prelude.{◌≡◌};
 ghost use Rattle.block.specs.Signs.{sign_of, dle};

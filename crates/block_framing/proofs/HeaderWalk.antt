@@ -5,6 +5,8 @@ use native.Mathlib.Nat.{add-zero}
 use native.Mathlib.Omega.{arith}
 use mathlib.Core.Bool.{Bool, true, false, cond, not, true≢false}
 use mathlib.Core.List.{List, [], ◌∷◌, ◌++◌}
+use Rattle.std.specs.Prelude.{Option, None, Some}
+use Rattle.std.specs.Option.{option_or}
 use lib.Dec.{eqb}
 use lib.ListN.{length}
 use borrow.Author.Tests.{eqb-true}
@@ -18,6 +20,7 @@ use Rattle.block.specs.Characters.{character}
 use Rattle.block.specs.Walk.{in_start, in_start_dle, in_header, in_header_dle}
 use Rattle.block.specs.Walk.{ended, Walked, onward, walk}
 use Rattle.block.specs.Marks.{is_header, is_text, sift, counted, has_inner}
+use Rattle.block_framing.specs.declared.FirstInnerStart.{FirstInnerStart}
 use Rattle.block_framing.specs.declared.LeftOuts.{LeftOuts}
 use Rattle.block_framing.specs.Framings.{add_mark}
 use Rattle.block_framing.specs.Walks.{leave, leaves}
@@ -34,7 +37,7 @@ not-zero n m h = go (eqb n 0) refl
     go true e = absurd (omega (arith, eqb-true n 0 e))
     go false e = refl
 
-first_stays : (inner at : ℕ) → 0 < inner → first_of inner at ≡ inner
+pub first_stays : (inner at : ℕ) → 0 < inner → first_of inner at ≡ inner
 first_stays inner at h = rw (not-zero inner (inner - 1) (omega arith))
 
 -- marks without an inner start leave the place as it is
@@ -46,20 +49,27 @@ inner_kept t at (TextByte ∷ ks) h = inner_kept (add_mark TextByte at t) (at + 
 inner_kept t at (InnerStart ∷ ks) h = absurd (true≢false h)
 inner_kept t at (End ∷ ks) h = inner_kept (add_mark End at t) (at + 1) ks h
 
-before-kept : (t : LeftOuts) (at : ℕ) (ks : List Mark) → has_inner ks ≡ false → (leaves t at ks).before ≡ t.before
-before-kept t at [] h = refl
-before-kept t at (LeftOut ∷ ks) h = before-kept (leave LeftOut at t) (at + 1) ks h
-before-kept t at (HeaderByte ∷ ks) h = before-kept (leave HeaderByte at t) (at + 1) ks h
-before-kept t at (TextByte ∷ ks) h = before-kept (leave TextByte at t) (at + 1) ks h
-before-kept t at (InnerStart ∷ ks) h = absurd (true≢false h)
-before-kept t at (End ∷ ks) h = before-kept (leave End at t) (at + 1) ks h
+first_kept : (t : LeftOuts) (at : ℕ) (ks : List Mark) → has_inner ks ≡ false → (leaves t at ks).inner ≡ t.inner
+first_kept t at [] h = refl
+first_kept t at (LeftOut ∷ ks) h = first_kept (leave LeftOut at t) (at + 1) ks h
+first_kept t at (HeaderByte ∷ ks) h = first_kept (leave HeaderByte at t) (at + 1) ks h
+first_kept t at (TextByte ∷ ks) h = first_kept (leave TextByte at t) (at + 1) ks h
+first_kept t at (InnerStart ∷ ks) h = absurd (true≢false h)
+first_kept t at (End ∷ ks) h = first_kept (leave End at t) (at + 1) ks h
 
--- the first inner start notes how many bytes were left out before it, a second one nothing
-leave-first : (t : LeftOuts) (at : ℕ) → t.inner ≡ 0 → leave InnerStart at t ≡ record { inner = at; before = t.all; all = t.all }
-leave-first t at z = rw z
+-- how many bytes were left out before the first inner start, 0 where there is none
+abbrev pub before_of : Option FirstInnerStart → ℕ
+before_of None = 0
+before_of (Some inner) = inner.before
 
-leave-second : (t : LeftOuts) (at : ℕ) → 0 < t.inner → leave InnerStart at t ≡ t
-leave-second t at h = rw (not-zero t.inner (t.inner - 1) (omega arith))
+-- an inner start notes how many bytes were left out before it, where it is the first
+noted_first : (o : Option FirstInnerStart) (at all : ℕ) → o ≡ None → before_of (option_or o (Some (record { at = at; before = all }))) ≡ all
+noted_first o at all z = rw z
+
+-- and a second one right behind it nothing
+noted_twice : (o : Option FirstInnerStart) (at all next : ℕ) → o ≡ None
+    → before_of (option_or (option_or o (Some (record { at = at; before = all }))) (Some (record { at = next; before = all }))) ≡ all
+noted_twice o at all next z = rw z
 
 -- ---- the walk over a header
 
@@ -89,7 +99,7 @@ pub record Headed (seven : Bool) (f : Field) (l : List ℕ) (ks : List Mark) : T
   pub counts : counted ks l ≡ kept_bytes false seven false head ++ (inner ++ counted marks tail)
   pub has : has_inner ks ≡ not (eqb wide 0)
   pub place : (t : Tally) (at : ℕ) → t.inner ≡ 0 → 0 < at → (tallied t at ks).inner ≡ cond (eqb wide 0) 0 (at + length head)
-  pub lefts : (t : LeftOuts) (at : ℕ) → t.inner ≡ 0 → 0 < at → 0 < wide → (leaves t at ks).before + length (sift is_header ks l) ≡ t.all + length head
+  pub lefts : (t : LeftOuts) (at : ℕ) → t.inner ≡ None → 0 < wide → before_of (leaves t at ks).inner + length (sift is_header ks l) ≡ t.all + length head
 
 headed_end : (seven : Bool) (f : Field) (b : ℕ) (rest : List ℕ) → f ≡ Header → Headed seven f (b ∷ rest) (End ∷ [])
 unfolding kept_bytes
@@ -112,7 +122,7 @@ headed_end seven f b rest g =
       counts = refl;
       has = refl;
       place = λ t at z n. z;
-      lefts = λ t at z n w. absurd (omega arith);
+      lefts = λ t at z w. absurd (omega arith);
     }
 
 headed_plain : (seven : Bool) (f : Field) (b : ℕ) (l : List ℕ) (w : Walked) → Closed false seven Text f l w
@@ -138,9 +148,9 @@ headed_plain seven f b l w p =
       has = refl;
       place = λ t at z n. inner_kept _ (at + 1) w.marks p.part.inner ∙ ap (λ i. first_of i at) z ∙ sym (add-zero at);
       lefts =
-          λ t at z n v.
-          let k : (leaves (leave InnerStart at t) (at + 1) w.marks).before ≡ t.all =
-          before-kept (leave InnerStart at t) (at + 1) w.marks p.part.inner ∙ ap (λ u. u.before) (leave-first t at z) in
+          λ t at z v.
+          let k : before_of (leaves (leave InnerStart at t) (at + 1) w.marks).inner ≡ t.all =
+          ap before_of (first_kept (leave InnerStart at t) (at + 1) w.marks p.part.inner) ∙ noted_first t.inner at t.all z in
           omega (arith, k, ap length p.part.headers);
     }
 
@@ -172,11 +182,10 @@ headed_clear f b c l w p =
           ∙ first_stays at (at + 1) n
           ∙ sym (add-zero at);
       lefts =
-          λ t at z n v.
-          let one : LeftOuts = record { inner = at; before = t.all; all = t.all } in
-          let k : (leaves (leave InnerStart (at + 1) (leave InnerStart at t)) (at + 1 + 1) w.marks).before ≡ t.all =
-          before-kept (leave InnerStart (at + 1) (leave InnerStart at t)) (at + 1 + 1) w.marks p.part.inner
-          ∙ ap (λ u. (leave InnerStart (at + 1) u).before) (leave-first t at z) ∙ ap (λ u. u.before) (leave-second one (at + 1) n) in
+          λ t at z v.
+          let k : before_of (leaves (leave InnerStart (at + 1) (leave InnerStart at t)) (at + 1 + 1) w.marks).inner ≡ t.all =
+          ap before_of (first_kept (leave InnerStart (at + 1) (leave InnerStart at t)) (at + 1 + 1) w.marks p.part.inner)
+          ∙ noted_twice t.inner at t.all (at + 1) z in
           omega (arith, k, ap length p.part.headers);
     }
 
@@ -203,7 +212,7 @@ module _ (seven : Bool) (f : Field) (l : List ℕ) (ks : List Mark) (p : Headed 
         counts = ap (λ z. b ∷ z) p.counts ∙ ap (λ z. z ++ (p.inner ++ counted p.marks p.tail)) (sym (k p.head));
         has = p.has;
         place = λ t at z n. p.place _ (at + 1) z (omega arith) ∙ ap (cond (eqb p.wide 0) 0) (omega arith);
-        lefts = λ t at z n v. omega (arith, p.lefts t (at + 1) z (omega arith) v);
+        lefts = λ t at z v. omega (arith, p.lefts t (at + 1) z v);
       }
 
   headed_left_out : (b : ℕ) → ((bs : List ℕ) → kept_bytes false seven false (b ∷ bs) ≡ kept_bytes false seven false bs)
@@ -227,7 +236,7 @@ module _ (seven : Bool) (f : Field) (l : List ℕ) (ks : List Mark) (p : Headed 
         counts = p.counts ∙ ap (λ z. z ++ (p.inner ++ counted p.marks p.tail)) (sym (k p.head));
         has = p.has;
         place = λ t at z n. p.place t (at + 1) z (omega arith) ∙ ap (cond (eqb p.wide 0) 0) (omega arith);
-        lefts = λ t at z n v. omega (arith, p.lefts (leave LeftOut at t) (at + 1) z (omega arith) v);
+        lefts = λ t at z v. omega (arith, p.lefts (leave LeftOut at t) (at + 1) z v);
       }
 
 -- behind a DLE

@@ -1,13 +1,14 @@
 -- The lengths that follow from the bytes left out are those that the marks say. Assumes nothing.
 use mathlib.Core.Path.{◌≡◌, refl, sym, ap, subst, ◌∙◌}
-use Prim.Native.Nat.{ℕ, zero, suc, ◌+◌, ◌-◌, ◌≤◌, ◌<◌}
+use Prim.Native.Nat.{ℕ, ◌+◌, ◌-◌, ◌≤◌, ◌<◌}
 use native.Mathlib.Omega.{arith}
 use mathlib.Core.Bool.{Bool, true, false, cond}
 use mathlib.Core.List.{List, [], ◌∷◌}
+use Rattle.std.specs.Prelude.{Option, None, Some}
+use Rattle.std.specs.Option.{option_or}
 use lib.Dec.{eqb}
 use lib.ListN.{length, length-append}
 use lib.Seq.{slice, slice_empty, length-slice}
-use borrow.Author.Tests.{eqb-false}
 use Rattle.block.specs.declared.Shape.{Shape}
 use Rattle.block.specs.declared.Shape.TheVariants as shape
 use Rattle.block.specs.declared.EndSign.{EndSign}
@@ -20,44 +21,50 @@ use Rattle.block.specs.Marks.{is_header, sift}
 use Rattle.block.specs.Write.{is_clear}
 use Rattle.block_end.specs.Ends.{text_signs, shape_at}
 use Rattle.block.proofs.Walks.{marks-within}
+use Rattle.block_framing.specs.declared.FirstInnerStart.{FirstInnerStart}
 use Rattle.block_framing.specs.declared.LeftOuts.{LeftOuts}
 use Rattle.block_framing.specs.declared.Segments.{Segments}
 use Rattle.block_framing.specs.Framings.{Tally, no_tally, first_of, add_mark, tallied, start_of, segments, framing_at, kept_bytes, header_in, text_in, counted_in, Segmented}
-use Rattle.block_framing.specs.Walks.{no_left_outs, leave, leaves, numbers, segments_at}
-use Rattle.block_framing.proofs.HeaderWalk.{inner_kept, Kind, header_alone, header_plain, header_clear, Line, plain, clear, headed, filled, line_of_lem}
+use Rattle.block_framing.specs.Walks.{no_left_outs, leave, leaves, numbers, text_at, segments_at}
+use Rattle.block_framing.proofs.HeaderWalk.{not-zero, first_stays, inner_kept, before_of, Kind, header_alone, header_plain, header_clear, Line, plain, clear, headed, filled, line_of_lem}
 use Rattle.block_framing.proofs.FramingLaws.{segmented, Tallied, tally_counts}
-
-positive : (n : ℕ) → (n ≡ 0 → ⊥) → 0 < n
-positive zero h = absurd (h refl)
-positive (suc n) h = omega arith
 
 -- ---- mark by mark
 
-inner_first : (c : Bool) (t : LeftOuts) (at : ℕ) → (cond c (record { inner = at; before = t.all; all = t.all }) t).inner ≡ cond c at t.inner
-inner_first true t at = refl
-inner_first false t at = refl
+-- the first inner start stands at the tally's place, which is not 0, and where there is none the tally has 0
+abbrev StandsAt : Option FirstInnerStart → ℕ → Type 0
+StandsAt None place = place ≡ 0
+StandsAt (Some inner) place = (place ≡ inner.at) × (0 < place)
 
-all_first : (c : Bool) (t : LeftOuts) (at : ℕ) → (cond c (record { inner = at; before = t.all; all = t.all }) t).all ≡ t.all
-all_first true t at = refl
-all_first false t at = refl
+inner_first : (o : Option FirstInnerStart) (at all place : ℕ) → 0 < at → StandsAt o place
+    → StandsAt (option_or o (Some (record { at = at; before = all }))) (first_of place at)
+inner_first None at all place h p = rw p (refl, h)
+inner_first (Some inner) at all place h p = rw (first_stays place at p.1) p
 
-inner_step : (k : Mark) (t : LeftOuts) (u : Tally) (at : ℕ) → t.inner ≡ u.inner → (leave k at t).inner ≡ (add_mark k at u).inner
-inner_step LeftOut t u at e = e
-inner_step HeaderByte t u at e = e
-inner_step TextByte t u at e = e
-inner_step InnerStart t u at e = inner_first (eqb t.inner 0) t at ∙ ap (λ n. first_of n at) e
-inner_step End t u at e = e
+inner_step : (k : Mark) (t : LeftOuts) (u : Tally) (at : ℕ) → 0 < at → StandsAt t.inner u.inner → StandsAt (leave k at t).inner (add_mark k at u).inner
+inner_step LeftOut t u at h p = p
+inner_step HeaderByte t u at h p = p
+inner_step TextByte t u at h p = p
+inner_step InnerStart t u at h p = inner_first t.inner at t.all u.inner h p
+inner_step End t u at h p = p
 
--- the place of the inner start is the tally's
-same_inner : (ks : List Mark) (t : LeftOuts) (u : Tally) (at : ℕ) → t.inner ≡ u.inner → (leaves t at ks).inner ≡ (tallied u at ks).inner
-same_inner [] t u at e = e
-same_inner (k ∷ ks) t u at e = same_inner ks (leave k at t) (add_mark k at u) (at + 1) (inner_step k t u at e)
+same_inner : (ks : List Mark) (t : LeftOuts) (u : Tally) (at : ℕ) → 0 < at → StandsAt t.inner u.inner → StandsAt (leaves t at ks).inner (tallied u at ks).inner
+same_inner [] t u at h p = p
+same_inner (k ∷ ks) t u at h p = same_inner ks (leave k at t) (add_mark k at u) (at + 1) (omega arith) (inner_step k t u at h p)
+
+-- the first byte of a line is never an inner start, so none stands at the place 0
+inner_placed : (seven : Bool) (f : Field) (n : ℕ) (line : List ℕ) (ks : List Mark) → Line seven f n line ks
+    → StandsAt (leaves no_left_outs 0 ks).inner (tallied no_tally 0 ks).inner
+inner_placed seven f n line ks (plain b l ms p) = same_inner ms (leave LeftOut 0 no_left_outs) no_tally 1 (omega arith) refl
+inner_placed seven f n line ks (clear b c l ms p) = same_inner (LeftOut ∷ ms) (leave LeftOut 0 no_left_outs) no_tally 1 (omega arith) refl
+inner_placed seven f n line ks (headed g b l ms p) = same_inner ms (leave LeftOut 0 no_left_outs) no_tally 1 (omega arith) refl
+inner_placed seven f n line ks (filled g m b l ms p) = same_inner ms (leave LeftOut 0 no_left_outs) no_tally 1 (omega arith) refl
 
 all-step : (k : Mark) (t : LeftOuts) (u : Tally) (at : ℕ) → (add_mark k at u).counted + (leave k at t).all ≡ u.counted + t.all + 1
 all-step LeftOut t u at = omega arith
 all-step HeaderByte t u at = omega arith
 all-step TextByte t u at = omega arith
-all-step InnerStart t u at = omega (arith, all_first (eqb t.inner 0) t at)
+all-step InnerStart t u at = omega arith
 all-step End t u at = omega arith
 
 -- every byte is counted or left out
@@ -74,14 +81,14 @@ by_kind f c wide m inner header_plain e h = (omega arith, e)
 by_kind f c wide m inner header_clear e h = (omega arith, e)
 
 before_inner : (seven : Bool) (f : Field) (n : ℕ) (line : List ℕ) (ks : List Mark) → Line seven f n line ks → (t : LeftOuts) (at : ℕ)
-    → t.inner ≡ 0 → t.all ≡ at → 0 < (tallied no_tally at ks).inner
-    → (leaves t at ks).before + length (sift is_header ks line) ≡ (tallied no_tally at ks).inner
+    → t.inner ≡ None → t.all ≡ at → 0 < (tallied no_tally at ks).inner
+    → before_of (leaves t at ks).inner + length (sift is_header ks line) ≡ (tallied no_tally at ks).inner
 before_inner seven f n line ks (plain b l ms p) t at z a h = absurd (omega (arith, inner_kept no_tally (at + 1) ms p.inner))
 before_inner seven f n line ks (clear b c l ms p) t at z a h = absurd (omega (arith, inner_kept no_tally (at + 1 + 1) ms p.inner))
 before_inner seven f n line ks (headed g b l ms p) t at z a h =
     let k = by_kind g p.clear p.wide (at + 1 + length p.head) (tallied no_tally (at + 1) ms).inner p.kind
     (p.place no_tally (at + 1) refl (omega arith)) h in
-    omega (arith, p.lefts (leave LeftOut at t) (at + 1) z (omega arith) k.0, k.1)
+    omega (arith, p.lefts (leave LeftOut at t) (at + 1) z k.0, k.1)
 before_inner seven f n line ks (filled g m b l ms p) t at z a h =
     before_inner seven g m l ms p (leave LeftOut at t) (at + 1) z (omega (arith, a)) h
 
@@ -92,17 +99,11 @@ same_numbers : {s u : Shape} (e : EndSign) (t : Tally) (after head inner body ta
     → segments s e (numbers h x n) after head inner body tail ≡ segments u e t after head inner body tail
 same_numbers e t after head inner body tail a p q r = rw (a, p, q, r)
 
--- the segments of a text alone, and of one behind a header
-module _ (start signs : ℕ) (e : EndSign) (t : LeftOuts) (after i : ℕ) (p : eqb signs 0 ≡ false) (q : t.inner ≡ i) where
-  at_alone : eqb i 0 ≡ true → segments_at start signs e t after
-      ≡ segments (shape_at signs i) e (numbers 0 (after - t.all - 1) (after - t.all)) after (start + signs) (start + signs) (start + signs) (after - signs)
-  unfolding segments_at
-  at_alone c = rw (p, q, c)
-
-  at_behind : eqb i 0 ≡ false → segments_at start signs e t after
-      ≡ segments (shape_at signs i) e (numbers (i - t.before) (after - t.all - (i - t.before + signs + 1)) (after - t.all)) after (start + 1) i (i + signs) (after - signs)
-  unfolding segments_at
-  at_behind c = rw (p, q, c)
+-- the segments of a line with a text
+with_text_at : (start signs : ℕ) (e : EndSign) (t : LeftOuts) (after : ℕ) → eqb signs 0 ≡ false
+    → segments_at start signs e t after ≡ text_at start signs e t.inner t.all after
+unfolding segments_at
+with_text_at start signs e t after p = rw p
 
 module _ (seven : Bool) (line : List ℕ) (ks : List Mark) (f : Field) (e : EndSign) (w : walk seven line 0 Start ≡ record { marks = ks; stop = ended f e }) where
   abbrev T : Tally
@@ -116,6 +117,9 @@ module _ (seven : Bool) (line : List ℕ) (ks : List Mark) (f : Field) (e : EndS
 
   s : Segmented seven line ks F
   s = segmented seven line ks f e w
+
+  line_of : Line seven f (start_of seven line) line ks
+  line_of = line_of_lem seven line ks f e w
 
   marks : length ks ≤ length line
   marks = subst (λ v. length v.marks ≤ length line) w (marks-within seven line 0 Start)
@@ -148,9 +152,9 @@ module _ (seven : Bool) (line : List ℕ) (ks : List Mark) (f : Field) (e : EndS
       ∙ ap (λ n. length (kept_bytes (is_clear F.shape) seven false (slice n F.tail line))) q
       ∙ ap (λ l. length (kept_bytes (is_clear F.shape) seven false l)) (slice_empty F.tail line)
 
-  header_is : 0 < T.inner → T.inner - L.before ≡ T.header
+  header_is : 0 < T.inner → T.inner - before_of L.inner ≡ T.header
   header_is h =
-      omega (arith, before_inner seven f (start_of seven line) line ks (line_of_lem seven line ks f e w) no_left_outs 0 refl refl h, t.headers)
+      omega (arith, before_inner seven f (start_of seven line) line ks line_of no_left_outs 0 refl refl h, t.headers)
 
   module _ (alone behind : Shape) where
     abbrev Alone : Segments
@@ -160,24 +164,23 @@ module _ (seven : Bool) (line : List ℕ) (ks : List Mark) (f : Field) (e : EndS
     Behind = segments behind e T (length ks) (start_of seven line + 1) T.inner (T.inner + text_signs f) (length ks - text_signs f)
 
     with_text : eqb (text_signs f) 0 ≡ false → F ≡ cond (eqb T.inner 0) Alone Behind
-        → shape_at (text_signs f) T.inner ≡ cond (eqb T.inner 0) alone behind
+        → shape_at (text_signs f) false ≡ alone → shape_at (text_signs f) true ≡ behind
         → segments_at (start_of seven line) (text_signs f) e L (length ks) ≡ F
-    with_text p q r = go (eqb T.inner 0) refl
+    with_text p q r v = with_text_at (start_of seven line) (text_signs f) e L (length ks) p ∙ go L.inner refl (inner_placed seven f (start_of seven line) line ks line_of)
       where
-        go : (c : Bool) → eqb T.inner 0 ≡ c → segments_at (start_of seven line) (text_signs f) e L (length ks) ≡ F
-        go true c =
-            let z : F ≡ Alone = q ∙ ap (λ b. cond b Alone Behind) c in
+        go : (o : Option FirstInnerStart) → L.inner ≡ o → StandsAt o T.inner → text_at (start_of seven line) (text_signs f) e o L.all (length ks) ≡ F
+        go None g i =
+            let z : F ≡ Alone = q ∙ ap (λ n. cond (eqb n 0) Alone Behind) i in
             let h : T.header ≡ 0 = no_header (ap (λ g. g.head) z ∙ sym (ap (λ g. g.inner) z)) in
             let x : length ks - L.all - 1 ≡ T.text = omega (arith, parts, h, counted_is, ap (λ g. g.body) z, ap (λ g. g.inner) z) in
-            at_alone (start_of seven line) (text_signs f) e L (length ks) T.inner p (same_inner ks no_left_outs no_tally 0 refl) c
-            ∙ same_numbers e T (length ks) _ _ _ _ (r ∙ ap (λ b. cond b alone behind) c) (sym h) x counted_is ∙ sym z
-        go false c =
-            let z : F ≡ Behind = q ∙ ap (λ b. cond b Alone Behind) c in
-            let n : T.inner ≡ 0 → ⊥ = eqb-false T.inner 0 c in
-            let h : T.inner - L.before ≡ T.header = header_is (positive T.inner n) in
-            let x : length ks - L.all - (T.inner - L.before + text_signs f + 1) ≡ T.text = omega (arith, parts, h, counted_is, ap (λ g. g.body) z, ap (λ g. g.inner) z) in
-            at_behind (start_of seven line) (text_signs f) e L (length ks) T.inner p (same_inner ks no_left_outs no_tally 0 refl) c
-            ∙ same_numbers e T (length ks) _ _ _ _ (r ∙ ap (λ b. cond b alone behind) c) h x counted_is ∙ sym z
+            same_numbers e T (length ks) _ _ _ _ r (sym h) x counted_is ∙ sym z
+        go (Some inner) g i =
+            let z : F ≡ Behind = q ∙ ap (λ b. cond b Alone Behind) (not-zero T.inner (T.inner - 1) (omega (arith, i.1))) in
+            let h : inner.at - inner.before ≡ T.header = omega (arith, header_is i.1, ap before_of g, i.0) in
+            let x : length ks - L.all - (inner.at - inner.before + text_signs f + 1) ≡ T.text =
+            omega (arith, parts, h, counted_is, ap (λ g. g.body) z, ap (λ g. g.inner) z) in
+            same_numbers e T (length ks) _ _ _ _ v h x counted_is
+            ∙ ap (λ n. segments behind e T (length ks) (start_of seven line + 1) n (n + text_signs f) (length ks - text_signs f)) (sym i.0) ∙ sym z
 
   without_text : text_signs f ≡ 0 → F ≡ segments shape.Header e T (length ks) (start_of seven line + 1) (length ks - 1) (length ks - 1) (length ks - 1)
       → segments_at (start_of seven line) (text_signs f) e L (length ks) ≡ F
@@ -198,6 +201,6 @@ segments_framing seven line ks Start e w = without_text seven line ks Start e w 
 segments_framing seven line ks StartDle e w = without_text seven line ks StartDle e w refl refl
 segments_framing seven line ks Header e w = without_text seven line ks Header e w refl refl
 segments_framing seven line ks HeaderDle e w = without_text seven line ks HeaderDle e w refl refl
-segments_framing seven line ks Text e w = with_text seven line ks Text e w shape.Text shape.HeaderText refl refl refl
+segments_framing seven line ks Text e w = with_text seven line ks Text e w shape.Text shape.HeaderText refl refl refl refl
 segments_framing seven line ks Clear e w = without_text seven line ks Clear e w refl refl
-segments_framing seven line ks ClearDle e w = with_text seven line ks ClearDle e w shape.ClearText shape.HeaderClearText refl refl refl
+segments_framing seven line ks ClearDle e w = with_text seven line ks ClearDle e w shape.ClearText shape.HeaderClearText refl refl refl refl

@@ -29,8 +29,7 @@ use Rattle.block.specs.Read.{Framed, found, unframed, ask_parities, ask_end, ask
 use Rattle.block.specs.Read as rule
 use Rattle.block.specs.Answers.{read_number, read_value}
 use Rattle.block.proofs.Walks.{marks-within}
-use Rattle.block_framing.specs.declared.WalkEnd.{WalkEnd}
-use Rattle.block_framing.specs.declared.WalkEnd.TheVariants as code
+use Rattle.std.specs.Prelude.{Result, Ok, Err}
 use Rattle.block_framing.specs.declared.Segments.{Segments}
 use Rattle.block_framing.specs.Framings.{Tally, no_tally, tallied, segments, framing_at, framed, refusal, of_walk, framed_answer, start_of}
 use Rattle.block_framing.specs.declared.LeftOuts.{LeftOuts}
@@ -230,12 +229,12 @@ module _ (m : Method) (line : List ℕ) (r : Segments) (e : walk_answer (start_o
 
 -- ---- the same of the code's walk
 
-module _ (m : Method) (line : List ℕ) {seven : Bool} {result : WalkEnd} (s : seven ≡ is_seven m)
+module _ (m : Method) (line : List ℕ) {seven : Bool} {result : Result Segments ReadRefusal} (s : seven ≡ is_seven m)
     (e : of_walk result ≡ walk_answer (start_of seven line) no_left_outs 0 (walk seven line 0 Start)) where
-  pub answer_as : {r : Segments} → result ≡ code.Found r → walk_answer (start_of (is_seven m) line) no_left_outs 0 (walk (is_seven m) line 0 Start) ≡ framed r
+  pub answer_as : {r : Segments} → result ≡ Ok r → walk_answer (start_of (is_seven m) line) no_left_outs 0 (walk (is_seven m) line 0 Start) ≡ framed r
   answer_as q = sym (e ∙ ap (λ t. walk_answer (start_of t line) no_left_outs 0 (walk t line 0 Start)) s) ∙ ap of_walk q
 
-  pub refused_as : {r : ReadRefusal} → result ≡ code.Refused r → of_walk result ≡ framed_answer (is_seven m) line (ask_walk m line (walk (is_seven m) line 0 Start))
+  pub refused_as : {r : ReadRefusal} → result ≡ Err r → of_walk result ≡ framed_answer (is_seven m) line (ask_walk m line (walk (is_seven m) line 0 Start))
   refused_as {r} q =
       ap of_walk q ∙ sym (refused_by (start_of (is_seven m) line) m line (walk (is_seven m) line 0 Start) (read_number r) (read_value r)
       (sym (e ∙ ap (λ t. walk_answer (start_of t line) no_left_outs 0 (walk t line 0 Start)) s) ∙ ap of_walk q))

@@ -6,7 +6,8 @@ use native.Mathlib.Numerals.{add-one}
 use native.Mathlib.Omega.{arith}
 use mathlib.Core.Bool.{Bool, true, false, true≢false, cond, not, ◌&&◌}
 use mathlib.Core.List.{List, [], ◌∷◌}
-use lib.Dec.{eqb}
+use Rattle.std.specs.Prelude.{Option, None, Some}
+use Rattle.std.specs.Option.{option_or}
 use lib.ListN.{length, get_or, take, drop, drop_of_length-le, length-drop}
 use lib.Seq.{drop-cons, get_or-drop, take-length}
 use borrow.Author.Count.{below_more}
@@ -27,10 +28,11 @@ use Rattle.block.specs.Scan.{first_failing}
 use Rattle.block.proofs.Scans.{Reached, reached}
 use Rattle.block_scan.specs.Tests.{is_plain_byte, is_clear_byte, is_data}
 use Rattle.block_end.specs.Ends.{text_signs, is_fill}
+use Rattle.block_framing.specs.declared.FirstInnerStart.{FirstInnerStart}
 use Rattle.block_framing.specs.declared.LeftOuts.{LeftOuts}
 use Rattle.block_framing.specs.declared.Segments.{Segments}
 use Rattle.block_framing.specs.Framings.{start_of, framed, refusal}
-use Rattle.block_framing.specs.Walks.{no_left_outs, leave, Small, segments_at, stopped, walk_answer}
+use Rattle.block_framing.specs.Walks.{no_left_outs, leave, place_of, Small, segments_at, stopped, walk_answer}
 use Rattle.block_framing.specs.Runs.{data_mark, Run}
 
 -- ---- the place of the start
@@ -62,15 +64,15 @@ signs_few ClearDle = omega arith
 
 -- ---- what is kept stays below the place
 
-small_first : (c : Bool) (t : LeftOuts) (i : ℕ) → Small t i → Small (cond c (record { inner = i; before = t.all; all = t.all }) t) (i + 1)
-small_first true t i s = record { inner = omega arith; all = omega (arith, s.all) }
-small_first false t i s = record { inner = omega (arith, s.inner); all = omega (arith, s.all) }
+small_first : (o : Option FirstInnerStart) (i all : ℕ) → place_of o ≤ i → place_of (option_or o (Some (record { at = i; before = all }))) ≤ i + 1
+small_first None i all h = omega arith
+small_first (Some inner) i all h = omega arith
 
 small_leave : (k : Mark) (t : LeftOuts) (i : ℕ) → Small t i → Small (leave k i t) (i + 1)
 small_leave LeftOut t i s = record { inner = omega (arith, s.inner); all = omega (arith, s.all) }
 small_leave HeaderByte t i s = record { inner = omega (arith, s.inner); all = omega (arith, s.all) }
 small_leave TextByte t i s = record { inner = omega (arith, s.inner); all = omega (arith, s.all) }
-small_leave InnerStart t i s = small_first (eqb t.inner 0) t i s
+small_leave InnerStart t i s = record { inner = small_first t.inner i t.all s.inner; all = omega (arith, s.all) }
 small_leave End t i s = record { inner = omega (arith, s.inner); all = omega (arith, s.all) }
 
 pub small_widen : (t : LeftOuts) (i n : ℕ) → i ≤ n → Small t i → Small t n

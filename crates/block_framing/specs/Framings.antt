@@ -1,6 +1,6 @@
 -- What the walk hands on: where header and text begin and end, and what was counted. Every byte behind it is found from that
 -- without judging again. Assumes nothing.
-use Rattle.std.specs.Prelude.{◌≡◌, ℕ, ◌+◌, ◌-◌, ◌≤◌, ◌<◌, Bool, false, cond, not, ◌&&◌, List, [], ◌∷◌, ◌++◌, eqb, length, get_or}
+use Rattle.std.specs.Prelude.{◌≡◌, ℕ, ◌+◌, ◌-◌, ◌≤◌, ◌<◌, Bool, false, cond, not, ◌&&◌, List, [], ◌∷◌, ◌++◌, eqb, length, get_or, Result, Ok, Err}
 use Rattle.std.proofs.Math.Seq.{slice}
 use Rattle.bits.specs.Differences.{cons_if}
 use Rattle.block.specs.declared.Shape.{Shape}
@@ -8,6 +8,7 @@ use Rattle.block.specs.declared.Shape.TheVariants as shape
 use Rattle.block.specs.declared.EndSign.{EndSign}
 use Rattle.block.specs.declared.Mark.{Mark}
 use Rattle.block.specs.declared.Mark.TheVariants.{LeftOut, HeaderByte, TextByte, InnerStart, End}
+use Rattle.block.specs.declared.ReadRefusal.{ReadRefusal}
 use Rattle.block.specs.declared.Field.{Field}
 use Rattle.block.specs.declared.Field.TheVariants.{Start, StartDle, Header, HeaderDle, Text, Clear, ClearDle}
 use Rattle.block.specs.Signs.{SYN, DLE, sign_of, is_syn}
@@ -18,8 +19,6 @@ use Rattle.block.specs.Write.{is_clear}
 use Rattle.block.specs.Answers.{Numbers, read_number, read_value}
 use Rattle.block.specs.Answers as answers
 use Rattle.block_framing.specs.declared.Segments.{Segments}
-use Rattle.block_framing.specs.declared.WalkEnd.{WalkEnd}
-use Rattle.block_framing.specs.declared.WalkEnd.TheVariants as code
 
 -- ---- the marks counted up
 
@@ -97,9 +96,9 @@ pub data WalkAnswer : Type 0 where
   framed : Segments → WalkAnswer
   refusal : ℕ → ℕ → WalkAnswer
 
-abbrev pub of_walk : WalkEnd → WalkAnswer
-of_walk (code.Found f) = framed f
-of_walk (code.Refused r) = refusal (read_number r) (read_value r)
+abbrev pub of_walk : Result Segments ReadRefusal → WalkAnswer
+of_walk (Ok f) = framed f
+of_walk (Err r) = refusal (read_number r) (read_value r)
 
 -- the answer for a line that passed the questions up to 17
 abbrev pub framed_answer : Bool → List ℕ → Framed → WalkAnswer

@@ -2,14 +2,19 @@
 // field and hands on where header, inner start and text begin and end, or the first refusal. It takes every input.
 #![tactic(auto)]
 
-use block::{EndSign, ReadRefusal, Shape};
+use block::{EndSign, Shape};
 
-// What the walk keeps of the marks: the place of the first inner start (0 where there was none), and how many bytes were left out
-// before it and in all.
+// The first inner start: its place, and how many bytes were left out before it.
+#[derive(Clone, Copy)]
+pub(crate) struct FirstInnerStart {
+    pub at: usize,
+    pub before: usize,
+}
+
+// What the walk keeps of the marks: the first inner start, and how many bytes were left out in all.
 #[derive(Clone, Copy)]
 pub(crate) struct LeftOuts {
-    pub inner: usize,
-    pub before: usize,
+    pub inner: Option<FirstInnerStart>,
     pub all: usize,
 }
 
@@ -28,13 +33,6 @@ pub struct Segments {
     pub text: usize,
     pub counted: usize,
     pub after: usize,
-}
-
-// How a walk ended.
-#[derive(Clone, Copy)]
-pub enum WalkEnd {
-    Found(Segments),
-    Refused(ReadRefusal),
 }
 
 mod questions;

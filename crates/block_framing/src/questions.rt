@@ -5,51 +5,52 @@ ghost use Rattle.block.specs.Walk as rule;
 ghost use Rattle.block.specs.Read.{framed, ask_walk};
 ghost use Rattle.block_framing.specs.Framings.{of_walk, framed_answer};
 
-use crate::WalkEnd;
+use crate::Segments;
 use crate::walk::walk;
-use block::{BytePlace, COUNTED_LIMIT, Field, Method, Parity, ReadRefusal, check_length, is_seven};
+use block::{BytePlace, COUNTED_LIMIT, Field, Link, Method, ReadRefusal, check_length, is_seven};
 use block_parity::first_wrong;
 
 // Question 11: the most bytes of a line.
 const LINE_LIMIT: usize = 16384;
 
 // Questions 13 to 15, 52, 53 and 17.
-fn walk_closed(m: Method, line: &[u8]) -> WalkEnd
+fn walk_closed(m: Method, line: &[u8]) -> Result<Segments, ReadRefusal>
     requires { length line.now ≤ 16384 }
     ensures { of_walk result ≡ framed_answer (is_seven m) line.now (ask_walk m line.now (rule.walk (is_seven m) line.now 0 Field.Start)) }
 {
     let walked = walk(is_seven(m), line);
-    let WalkEnd::Found(f) = walked else {
+    let Ok(f) = walked else {
         return walked;
     };
     let after = f.after;
     let counted = f.counted;
     let closed = after + check_length(m);
     if line.len() < closed {
-        return WalkEnd::Refused(ReadRefusal::CheckShort(BytePlace(after)));
+        return Err(ReadRefusal::CheckShort(BytePlace(after)));
     }
     if line.len() > closed {
-        return WalkEnd::Refused(ReadRefusal::CheckLong(BytePlace(after)));
+        return Err(ReadRefusal::CheckLong(BytePlace(after)));
     }
     if counted > COUNTED_LIMIT {
-        return WalkEnd::Refused(ReadRefusal::TooManyCounted);
+        return Err(ReadRefusal::TooManyCounted);
     }
     walked
 }
 
 // Questions 11 to 15, 52, 53 and 17.
-pub fn find_framing(m: Method, p: Parity, line: &[u8]) -> WalkEnd
-    ensures { of_walk result ≡ framed_answer (is_seven m) line.now (framed m p line.now) }
+pub fn find_framing(link: Link, line: &[u8]) -> Result<Segments, ReadRefusal>
+    ensures { of_walk result ≡ framed_answer (is_seven link.method) line.now (framed link.method link.parity line.now) }
 {
     if line.len() > LINE_LIMIT {
-        return WalkEnd::Refused(ReadRefusal::TooLong);
+        return Err(ReadRefusal::TooLong);
     }
-    if !is_seven(m) {
-        return walk_closed(m, line);
+    let method = link.method;
+    if !is_seven(method) {
+        return walk_closed(method, line);
     }
-    let at = first_wrong(p, line);
+    let at = first_wrong(link.parity, line);
     if at < line.len() {
-        return WalkEnd::Refused(ReadRefusal::WrongParity(BytePlace(at)));
+        return Err(ReadRefusal::WrongParity(BytePlace(at)));
     }
-    walk_closed(m, line)
+    walk_closed(method, line)
 }

@@ -3,7 +3,6 @@ use mathlib.Core.Path.{◌≡◌, refl, sym, ap, ap₂, ◌∙◌}
 use Prim.Native.Nat.{ℕ}
 use mathlib.Core.Bool.{Bool, true, false, cond}
 use mathlib.Core.List.{List, [], ◌∷◌, ◌++◌, map}
-use lib.ListN.{take}
 use Rattle.bits.specs.Bytes.{pack}
 use Rattle.block.specs.declared.Method.{Method}
 use Rattle.block.specs.declared.Parity.{Parity}
@@ -14,8 +13,7 @@ use Rattle.block.specs.Characters.{is_seven, sent}
 use Rattle.block.specs.Check.{check_of}
 use Rattle.block.specs.Write.{is_clear, start_signs, inner_signs, escaped, counted_bytes, framed_bytes, line_of}
 use Rattle.block.proofs.Lists.{map-append}
-use Rattle.block_signs.specs.Signs.{Holds, end_signs}
-use Rattle.block_signs.proofs.Few.{holds_front}
+use Rattle.block_signs.specs.Signs.{end_signs}
 use Rattle.block_checks.proofs.Checks.{sent-eight}
 use Rattle.block_store.specs.Store.{Stored}
 use Rattle.block_store.proofs.Stores.{stored_as, stored-append}
@@ -33,10 +31,6 @@ framed-parts m p s e head body = ap (λ l. map (sent (is_seven m) p) (start_sign
     go true = refl
     go false = refl
 
-stored-few : (f : ℕ → ℕ) {bytes two a b : List ℕ} {count i j : ℕ} → Holds bytes two count → Stored a i (map f (take count two)) b j
-    → Stored a i (map f bytes) b j
-stored-few f h s = stored_as (ap (map f) (holds_front h)) s
-
 module _ (m : Method) (p : Parity) (s : Shape) (e : EndSign) (head body : List ℕ) where
   f : ℕ → ℕ
   f = sent (is_seven m) p
@@ -53,12 +47,12 @@ module _ (m : Method) (p : Parity) (s : Shape) (e : EndSign) (head body : List �
       (map-append f head (inner_signs s ++ (text ++ ending))
       ∙ ap (λ l. map f head ++ l) (map-append f (inner_signs s) (text ++ ending) ∙ ap (λ l. map f (inner_signs s) ++ l) (map-append f text ending))))
 
-  pub line_of_lem : {seven clear : Bool} {t₁ t₃ t₅ t₆ o₁ o₂ o₃ o₄ o₅ o₆ out : List ℕ} {k₁ k₃ k₅ k₆ n₁ n₂ n₃ n₄ n₅ n₆ : ℕ} → seven ≡ is_seven m → clear ≡ is_clear s
-      → Holds (start_signs s) t₁ k₁ → Holds (inner_signs s) t₃ k₃ → Holds (end_signs clear e) t₅ k₅
-      → Holds (pack (check_of m p (counted_bytes m p s e head body))) t₆ k₆ → Stored out 0 (map (sent seven p) (take k₁ t₁)) o₁ n₁
-      → Stored o₁ n₁ (map (sent seven p) head) o₂ n₂ → Stored o₂ n₂ (map (sent seven p) (take k₃ t₃)) o₃ n₃
-      → Stored o₃ n₃ (map (sent seven p) (text_bytes clear body)) o₄ n₄ → Stored o₄ n₄ (map (sent seven p) (take k₅ t₅)) o₅ n₅
-      → Stored o₅ n₅ (map (sent false p) (take k₆ t₆)) o₆ n₆ → Stored out 0 (line_of m p s e head body) o₆ n₆
+  pub line_of_lem : {seven clear : Bool} {t₁ t₃ t₅ t₆ o₁ o₂ o₃ o₄ o₅ o₆ out : List ℕ} {n₁ n₂ n₃ n₄ n₅ n₆ : ℕ} → seven ≡ is_seven m → clear ≡ is_clear s
+      → t₁ ≡ start_signs s → t₃ ≡ inner_signs s → t₅ ≡ end_signs clear e → t₆ ≡ pack (check_of m p (counted_bytes m p s e head body))
+      → Stored out 0 (map (sent seven p) t₁) o₁ n₁ → Stored o₁ n₁ (map (sent seven p) head) o₂ n₂
+      → Stored o₂ n₂ (map (sent seven p) t₃) o₃ n₃ → Stored o₃ n₃ (map (sent seven p) (text_bytes clear body)) o₄ n₄
+      → Stored o₄ n₄ (map (sent seven p) t₅) o₅ n₅ → Stored o₅ n₅ (map (sent false p) t₆) o₆ n₆
+      → Stored out 0 (line_of m p s e head body) o₆ n₆
   unfolding line_of f
   line_of_lem {seven} v w h₁ h₃ h₅ h₆ a b c d k z =
       let g : ℕ → ℕ = sent seven p in
@@ -68,5 +62,5 @@ module _ (m : Method) (p : Parity) (s : Shape) (e : EndSign) (head body : List �
       (λ t u. map (sent t p) (start_signs s) ++ (map (sent t p) head ++ (map (sent t p) (inner_signs s) ++ (map (sent t p) (text_bytes u body) ++ map (sent t p) (end_signs u e)))))
       v w ∙ framed)
       (sent-eight p (pack (check_of m p (counted_bytes m p s e head body)))))
-      (stored-append (stored-append (stored-few g h₁ a) (stored-append b (stored-append (stored-few g h₃ c) (stored-append d (stored-few g h₅ k)))))
-      (stored-few (sent false p) h₆ z))
+      (stored-append (stored-append (stored_as (ap (map g) h₁) a) (stored-append b (stored-append (stored_as (ap (map g) h₃) c) (stored-append d (stored_as (ap (map g) h₅) k)))))
+      (stored_as (ap (map (sent false p)) h₆) z))

@@ -1,26 +1,18 @@
 // The line of a block put together from its parts: `put_line` takes every input, and leaves out what has no room in the output.
 #![tactic(auto)]
 
-ghost use Rattle.std.specs.Prelude.{map, ◌≤◌, length, take};
+ghost use Rattle.std.specs.Prelude.{map};
 ghost use Rattle.block.specs.Characters as characters;
 ghost use Rattle.block.specs.Write as rule;
 ghost use Rattle.block_store.specs.Store.{Stored};
 ghost use Rattle.block_line.specs.Line.{text_bytes};
 
-use block::{EndSign, Method, Parity, Shape, is_clear, is_seven};
+use block::{Link, Parity, Parts, is_clear, is_seven};
 use block_checks::written_check;
-use block_signs::{FewBytes, end_signs, inner_signs, start_signs};
+use block_signs::{end_signs, inner_signs, start_signs};
 use block_store::{store_characters, store_clear, store_each};
 
-// Signs, or a check. The answer is the next place, as of each function here.
-fn put_few(seven: bool, parity: Parity, few: FewBytes, out: &mut [u8], at: usize) -> usize
-    requires { few.length ≤ length few.bytes }
-    ensures { Stored out.old at (map (characters.sent seven parity) (take few.length few.bytes)) out.new result }
-{
-    let bytes = few.bytes;
-    store_each(seven, parity, &bytes[..few.length], &mut *out, at)
-}
-
+// The text as the shape has it. The answer is the next place.
 fn put_text(
     seven: bool,
     parity: Parity,
@@ -38,24 +30,20 @@ fn put_text(
 }
 
 // The whole line from the start of the output on.
-pub fn put_line(
-    method: Method,
-    parity: Parity,
-    shape: Shape,
-    end: EndSign,
-    header: &[u8],
-    text: &[u8],
-    out: &mut [u8],
-) -> usize
-    ensures { Stored out.old 0 (rule.line_of method parity shape end header.now text.now) out.new result }
+pub fn put_line(link: Link, parts: &Parts<'_>, out: &mut [u8]) -> usize
+    ensures { Stored out.old 0 (rule.line_of link.method link.parity parts.now.shape parts.now.end parts.now.header.now parts.now.text.now) out.new result }
 {
-    let seven = is_seven(method);
-    let clear = is_clear(shape);
-    let check = written_check(method, parity, shape, end, header, text);
-    let start = put_few(seven, parity, start_signs(shape), &mut *out, 0);
-    let head = store_characters(seven, parity, header, &mut *out, start);
-    let inner = put_few(seven, parity, inner_signs(shape), &mut *out, head);
-    let body = put_text(seven, parity, clear, text, &mut *out, inner);
-    let ending = put_few(seven, parity, end_signs(clear, end), &mut *out, body);
-    put_few(false, parity, check, &mut *out, ending)
+    let parity = link.parity;
+    let seven = is_seven(link.method);
+    let clear = is_clear(parts.shape);
+    let start_signs = start_signs(parts.shape);
+    let inner_signs = inner_signs(parts.shape);
+    let end_signs = end_signs(clear, parts.end);
+    let check = written_check(link, parts);
+    let start = store_each(seven, parity, start_signs.as_slice(), &mut *out, 0);
+    let head = store_characters(seven, parity, parts.header, &mut *out, start);
+    let inner = store_each(seven, parity, inner_signs.as_slice(), &mut *out, head);
+    let body = put_text(seven, parity, clear, parts.text, &mut *out, inner);
+    let ending = store_each(seven, parity, end_signs.as_slice(), &mut *out, body);
+    store_each(false, parity, check.as_slice(), &mut *out, ending)
 }

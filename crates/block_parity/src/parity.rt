@@ -9,10 +9,7 @@ use block::Parity;
 fn is_odd(p: Parity) -> bool
     ensures { result ≡ rule.is_odd p }
 {
-    match p {
-        Parity::Even => false,
-        Parity::Odd => true,
-    }
+    matches!(p, Parity::Odd)
 }
 
 // Whether the ones of a byte are odd in number.
@@ -25,6 +22,7 @@ fn odd_ones(b: u8) -> bool
     one % 2 == 1
 }
 
+#[tactic(auto, unfolding(block::specs::Characters::parity_right))]
 pub fn parity_right(p: Parity, b: u8) -> bool
     ensures { result ≡ rule.parity_right p b }
 {

@@ -1,10 +1,9 @@
 -- The questions on the parts of a block to be written, and what follows them. Assumes nothing.
-use Rattle.std.specs.Prelude.{Bool, cond, not, ◌&&◌, ◌||◌, ℕ, List, [], leb}
+use Rattle.std.specs.Prelude.{Bool, cond, not, ◌&&◌, ◌||◌, ℕ, List, [], leb, Result, Ok, Err}
 use Rattle.block.specs.declared.Shape.{Shape}
 use Rattle.block.specs.Write.{is_clear, has_header, has_text, is_empty, counted_length, WriteAnswer, refusal, ask, ask_free}
 use Rattle.block.specs.Answers.{write_number, write_value}
-use Rattle.block_parts.specs.declared.PartsAsked.{PartsAsked}
-use Rattle.block_parts.specs.declared.PartsAsked.TheVariants.{Passed, Refused}
+use Rattle.block.specs.declared.WriteRefusal.{WriteRefusal}
 
 -- questions 1, 4, 2, 3 and 5, as `write_block` asks them; where all are passed, the answer is `next`
 unfoldable pub ask_parts : Bool → Shape → List ℕ → List ℕ → WriteAnswer → WriteAnswer
@@ -16,6 +15,6 @@ ask_parts seven s head body next =
     (ask (leb (counted_length s head body) 4096) 5 0 next))))
 
 -- what code answered
-abbrev pub after_asked : PartsAsked → WriteAnswer → WriteAnswer
-after_asked Passed next = next
-after_asked (Refused r) next = refusal (write_number r) (write_value r)
+abbrev pub after_asked : Result Unit WriteRefusal → WriteAnswer → WriteAnswer
+after_asked (Ok passed) next = next
+after_asked (Err r) next = refusal (write_number r) (write_value r)

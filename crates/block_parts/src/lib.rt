@@ -6,15 +6,9 @@ ghost use Rattle.block.specs.Scan.{first_failing};
 ghost use Rattle.block.specs.Write as rule;
 ghost use Rattle.block_parts.specs.Parts.{ask_parts, after_asked};
 
-use block::{BytePlace, COUNTED_LIMIT, Shape, WriteRefusal, is_clear};
+use block::{BytePlace, COUNTED_LIMIT, Parts, Shape, WriteRefusal, is_clear};
 use block_scan::plain_run;
 use block_signs::inner_signs;
-
-#[derive(Clone, Copy)]
-pub enum PartsAsked {
-    Passed,
-    Refused(WriteRefusal),
-}
 
 // Question 4: a part that the shape lacks is empty.
 fn parts_fit(shape: Shape, header: usize, text: usize) -> bool
@@ -50,30 +44,33 @@ fn count_fits(shape: Shape, header: usize, text: usize) -> bool
     if text > COUNTED_LIMIT {
         return false;
     }
-    header + inner_signs(shape).length + text + 1 <= COUNTED_LIMIT
+    header + inner_signs(shape).len() + text + 1 <= COUNTED_LIMIT
 }
 
 // The questions of parts in methods 1 and 2 (`seven`) or in 3 and 4.
-pub fn ask_parts(seven: bool, shape: Shape, header: &[u8], text: &[u8]) -> PartsAsked
-    ensures { (next : rule.WriteAnswer) → after_asked result next ≡ ask_parts seven shape header.now text.now next }
+pub fn ask_parts(seven: bool, parts: &Parts<'_>) -> Result<(), WriteRefusal>
+    ensures { (next : rule.WriteAnswer) → after_asked result next ≡ ask_parts seven parts.now.shape parts.now.header.now parts.now.text.now next }
 {
+    let shape = parts.shape;
+    let header = parts.header;
+    let text = parts.text;
     let clear = is_clear(shape);
     if seven & clear {
-        return PartsAsked::Refused(WriteRefusal::NotCarried);
+        return Err(WriteRefusal::NotCarried);
     }
     if !parts_fit(shape, header.len(), text.len()) {
-        return PartsAsked::Refused(WriteRefusal::PartNotEmpty);
+        return Err(WriteRefusal::PartNotEmpty);
     }
     let head = plain_run(false, seven, header);
     if head < header.len() {
-        return PartsAsked::Refused(WriteRefusal::HeaderByte(BytePlace(head)));
+        return Err(WriteRefusal::HeaderByte(BytePlace(head)));
     }
     let body = text_run(seven, clear, text);
     if body < text.len() {
-        return PartsAsked::Refused(WriteRefusal::TextByte(BytePlace(body)));
+        return Err(WriteRefusal::TextByte(BytePlace(body)));
     }
     if !count_fits(shape, header.len(), text.len()) {
-        return PartsAsked::Refused(WriteRefusal::TooManyCounted);
+        return Err(WriteRefusal::TooManyCounted);
     }
-    PartsAsked::Passed
+    Ok(())
 }

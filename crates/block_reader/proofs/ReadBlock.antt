@@ -29,8 +29,7 @@ use Rattle.block.specs.Answers.{Numbers, block, refused, shape_number, read_numb
 use Rattle.block.proofs.Lists.{map-append}
 use Rattle.block.proofs.Passed.{Passed, passed}
 use Rattle.block_framing.specs.declared.Segments.{Segments}
-use Rattle.block_framing.specs.declared.WalkEnd.{WalkEnd}
-use Rattle.block_framing.specs.declared.WalkEnd.TheVariants as code
+use Rattle.std.specs.Prelude.{Result, Ok, Err}
 use Rattle.block_framing.specs.Framings.{no_tally, tallied, start_of, framing_at, WalkAnswer, framed, refusal, of_walk, framed_answer, header_in, text_in, counted_in, Ordered, Segmented}
 use Rattle.block_framing.proofs.FramingLaws.{segmented, Tallied, tally_counts, framing_shape}
 use Rattle.block_framing.proofs.Reading.{Carries, framing_carries}
@@ -174,10 +173,10 @@ module _ (m : Method) (p : Parity) (line : List ℕ) (r : Segments) (q : framed 
 
 -- ---- what the walk answers
 
-pub walk_found : {w : WalkEnd} {r : Segments} {answer : WalkAnswer} → of_walk w ≡ answer → w ≡ code.Found r → framed r ≡ answer
+pub walk_found : {w : Result Segments ReadRefusal} {r : Segments} {answer : WalkAnswer} → of_walk w ≡ answer → w ≡ Ok r → framed r ≡ answer
 walk_found e q = sym (ap of_walk q) ∙ e
 
-pub no_framing : (m : Method) (p : Parity) (line out : List ℕ) {w : WalkEnd} {r : ReadRefusal} → of_walk w ≡ framed_answer (is_seven m) line (rule.framed m p line) → w ≡ code.Refused r
+pub no_framing : (m : Method) (p : Parity) (line out : List ℕ) {w : Result Segments ReadRefusal} {r : ReadRefusal} → of_walk w ≡ framed_answer (is_seven m) line (rule.framed m p line) → w ≡ Err r
     → called (refused (read_number r) (read_value r)) out ≡ read_call m p line out
 unfolding read_block
 no_framing m p line out {w} {r} e q = is_refused out (go (rule.framed m p line) refl)

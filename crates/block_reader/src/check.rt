@@ -7,16 +7,17 @@ ghost use Rattle.block.specs.Check.{check_of};
 ghost use Rattle.block_framing.specs.Framings.{counted_in, Ordered};
 ghost use Rattle.block_reader.specs.Counts.{CountsKept};
 
-use block::{Method, Parity, is_clear};
+use block::{Link, is_clear};
 use block_check::{add_one, add_run, add_segment, is_check, start_of};
 use block_framing::Segments;
 
 // Whether what follows the end sign is the check of the counted bytes: header, inner start, text and end sign.
-pub(crate) fn check_right(m: Method, p: Parity, f: Segments, line: &[u8]) -> bool
+pub(crate) fn check_right(link: Link, f: Segments, line: &[u8]) -> bool
     requires ordered { Ordered f (length line.now) }
-    requires counts_kept { CountsKept (is_seven m) f line.now }
-    ensures { result ≡ same (bits_of (drop f.after line.now)) (check_of m p (counted_in (is_seven m) f line.now)) }
+    requires counts_kept { CountsKept (is_seven link.method) f line.now }
+    ensures { result ≡ same (bits_of (drop f.after line.now)) (check_of link.method link.parity (counted_in (is_seven link.method) f line.now)) }
 {
+    let m = link.method;
     let head = f.head;
     let inner = f.inner;
     let body = f.body;
@@ -27,5 +28,5 @@ pub(crate) fn check_right(m: Method, p: Parity, f: Segments, line: &[u8]) -> boo
     let header = add_segment(m, start_of(m), false, f.header, &line[head..inner]);
     let signs = add_run(m, header, &line[inner..body]);
     let text = add_segment(m, signs, is_clear(shape), f.text, &line[body..tail]);
-    is_check(m, p, add_one(m, text, line[last]), &line[after..])
+    is_check(link, add_one(m, text, line[last]), &line[after..])
 }

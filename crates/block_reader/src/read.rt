@@ -9,13 +9,13 @@ ghost use Rattle.block_framing.specs.Framings.{framed, framed_answer, header_in,
 ghost use Rattle.block_reader.specs.Counts.{CountsKept, held_by};
 
 use crate::check::check_right;
-use block::{Block, BlockRead, Method, Parity, ReadRefusal, is_clear, is_seven};
-use block_framing::{Segments, WalkEnd, find_framing};
+use block::{Block, Link, ReadRefusal, is_clear, is_seven};
+use block_framing::{Segments, find_framing};
 use block_segments::copy_both;
 
 // What an accepted block holds.
 fn held(f: Segments) -> Block
-    ensures { of_read (BlockRead.Taken result) ≡ held_by f }
+    ensures { of_read (Ok result) ≡ held_by f }
 {
     let shape = f.shape;
     let end = f.end;
@@ -51,34 +51,26 @@ fn hand_out(seven: bool, f: Segments, line: &[u8], out: &mut [u8])
 }
 
 // Questions 18 and 19 of a framed line, then header and text handed out.
-fn read_framed(
-    method: Method,
-    parity: Parity,
-    f: Segments,
-    line: &[u8],
-    out: &mut [u8],
-) -> BlockRead
-    requires { framed f ≡ framed_answer (is_seven method) line.now (rule.framed method parity line.now) }
-    ensures { called (of_read result) out.new ≡ read_call method parity line.now out.old }
+fn read_framed(link: Link, f: Segments, line: &[u8], out: &mut [u8]) -> Result<Block, ReadRefusal>
+    requires { framed f ≡ framed_answer (is_seven link.method) line.now (rule.framed link.method link.parity line.now) }
+    ensures { called (of_read result) out.new ≡ read_call link.method link.parity line.now out.old }
 {
-    if !check_right(method, parity, f, line) {
-        return BlockRead::Refused(ReadRefusal::WrongCheck);
+    if !check_right(link, f, line) {
+        return Err(ReadRefusal::WrongCheck);
     }
     let needed = f.header + f.text;
     if needed > out.len() {
-        return BlockRead::Refused(ReadRefusal::OutputShort(needed));
+        return Err(ReadRefusal::OutputShort(needed));
     }
-    hand_out(is_seven(method), f, line, &mut *out);
+    hand_out(is_seven(link.method), f, line, &mut *out);
     let block = held(f);
-    BlockRead::Taken(block)
+    Ok(block)
 }
 
 // Document 01, part 3: reads one block.
-pub fn read_block(method: Method, parity: Parity, line: &[u8], out: &mut [u8]) -> BlockRead
-    ensures { called (of_read result) out.new ≡ read_call method parity line.now out.old }
+pub fn read_block(link: Link, line: &[u8], out: &mut [u8]) -> Result<Block, ReadRefusal>
+    ensures { called (of_read result) out.new ≡ read_call link.method link.parity line.now out.old }
 {
-    match find_framing(method, parity, line) {
-        WalkEnd::Refused(r) => BlockRead::Refused(r),
-        WalkEnd::Found(f) => read_framed(method, parity, f, line, &mut *out),
-    }
+    let f = find_framing(link, line)?;
+    read_framed(link, f, line, &mut *out)
 }

@@ -1,58 +1,79 @@
--- A run of kept bytes in a clear text: found byte by byte, and entered at once. Assumes nothing.
-use mathlib.Core.Path.{◌≡◌, sym, ap, ap₂, ◌∙◌}
-use Prim.Native.Nat.{ℕ, suc, ◌+◌, ◌-◌, ◌≤◌, ◌<◌}
-use native.Mathlib.Nat.{sub_self}
+-- A run of kept bytes in a clear text: found as the run of what is kept behind no DLE, and entered at once. Assumes nothing.
+use mathlib.Core.Path.{◌≡◌, refl, sym, ap, ap₂, ◌∙◌}
+use Prim.Native.Nat.{ℕ, suc, ◌+◌}
+use native.Mathlib.Nat.{sub-zero}
 use native.Mathlib.Omega.{arith}
-use mathlib.Core.Bool.{Bool, true, false}
-use mathlib.Core.List.{List, [], ◌∷◌, ◌++◌, append_assoc}
+use mathlib.Core.Bool.{Bool, true, false, cond}
+use mathlib.Core.List.{List, [], ◌∷◌, ◌++◌}
 use borrow.Author.Tests.{not-true}
 use lib.Dec.{eqb}
-use lib.ListN.{length, length-drop, get_or, take, drop}
-use lib.Seq.{get_or-drop, take-suc}
+use lib.ListN.{length, take, drop}
 use Rattle.bits.specs.Differences.{cons_if}
-use Rattle.generator16.specs.declared.Generator16.{Generator16}
+use Rattle.block.specs.Signs.{DLE}
+use Rattle.block.specs.Scan.{first_failing}
+use Rattle.block.proofs.Scans.{reached}
+use Rattle.block_framing.specs.Framings.{is_kept, next_behind, kept_bytes}
 use Rattle.generator16.specs.Register.{register_after}
 use Rattle.generator16.proofs.Registers.{after-nil, after-append}
-use Rattle.block.specs.Signs.{DLE}
-use Rattle.block_framing.specs.Framings.{is_kept, next_behind, kept_bytes}
-use Rattle.block_segments.proofs.KeptLaws.{kept_next}
-use Rattle.block_segments.proofs.Folding.{Folding}
+use Rattle.block_segments.specs.declared.kept.Keeping.{Keeping}
+use Rattle.block_segments.specs.Kept.{keeps, after, kept_of}
+use Rattle.block_segments.proofs.Folding.{step}
+use Rattle.runs.proofs.Runs.{shifted}
 use Rattle.block_register.specs.Runs.{KeptRun}
 
-pub run_none : (behind : Bool) {part : List ℕ} {from : ℕ} → from ≤ length part → KeptRun behind part from from
-run_none behind {part} {from} h =
-    record { on = omega arith; within = h; kept = ap (λ n. take n (drop from part) ++ kept_bytes true false behind (drop from part)) (sym (sub_self from)) }
+pub run_none : (behind : Bool) (part : List ℕ) → KeptRun behind part 0 0
+run_none behind part = record { on = omega arith; within = omega arith; kept = refl }
 
 -- a kept byte that stands behind no DLE is none itself
 kept_state : (b : ℕ) → is_kept true false false b ≡ true → next_behind true false b ≡ false
 unfolding is_kept next_behind
 kept_state b e = not-true (eqb b DLE) e
 
-pub run_more : {part : List ℕ} {from i : ℕ} → KeptRun false part from i → i < length part → is_kept true false false (get_or part i 0) ≡ true → KeptRun false part from (i + 1)
-run_more {part} {from} {i} r h k =
-    let b = get_or part i 0 in
-    let n : from + (i - from) ≡ i = omega (arith, r.on) in
-    let m : suc (i - from) ≡ i + 1 - from = omega (arith, r.on) in
-    let l : i - from < length (drop from part) = omega (arith, r.on, length-drop from part) in
-    let rest = kept_bytes true false false (drop (i + 1) part) in
+abbrev run : List ℕ → ℕ
+run bs = first_failing (is_kept true false false) 0 bs
+
+split : (bs : List ℕ) → kept_bytes true false false bs ≡ take (run bs) bs ++ kept_bytes true false false (drop (run bs) bs)
+unfolding kept_bytes first_failing
+split [] = refl
+split (b ∷ bs) = go (is_kept true false false b) refl (shifted (is_kept true false false) 1 0 bs) (split bs)
+  where
+    go : (t : Bool) → is_kept true false false b ≡ t → first_failing (is_kept true false false) 1 bs ≡ 1 + run bs
+        → kept_bytes true false false bs ≡ take (run bs) bs ++ kept_bytes true false false (drop (run bs) bs)
+        → cons_if t b (kept_bytes true false (next_behind true false b) bs)
+        ≡ take (cond t (first_failing (is_kept true false false) 1 bs) 0) (b ∷ bs) ++ kept_bytes true false false (drop (cond t (first_failing (is_kept true false false) 1 bs) 0) (b ∷ bs))
+    go true e n h =
+        let m : first_failing (is_kept true false false) 1 bs ≡ suc (run bs) = omega (arith, n) in
+        rw m (ap (λ z. b ∷ z) (ap (λ s. kept_bytes true false s bs) (kept_state b e) ∙ h))
+    go false e n h = ap (λ t. cons_if t b (kept_bytes true false (next_behind true false b) bs)) (sym e)
+
+pub run_kept : (part : List ℕ) {n : ℕ} → n ≡ first_failing (is_kept true false false) 0 part → KeptRun false part 0 n
+run_kept part {n} e =
     record {
-      on = omega (arith, r.on);
-      within = omega arith;
-      kept =
-          r.kept
-          ∙ ap (λ z. take (i - from) (drop from part) ++ z) (kept_next true false false part i h ∙ ap₂ (λ t z. cons_if t b [] ++ kept_bytes true false z (drop (i + 1) part)) k (kept_state b k))
-          ∙ sym (append_assoc (take (i - from) (drop from part)) (b ∷ []) rest)
-          ∙ ap (λ x. take (i - from) (drop from part) ++ (x ∷ []) ++ rest) (sym (get_or-drop from part (i - from) 0 ∙ ap (λ j. get_or part j 0) n))
-          ∙ ap (λ z. z ++ rest) (sym (take-suc (drop from part) (i - from) 0 l) ∙ ap (λ j. take j (drop from part)) m);
+      on = omega arith;
+      within = omega (arith, e, (reached (is_kept true false false) 0 part).within);
+      kept = rw (sub-zero n, e) (split part);
     }
 
--- a run of kept bytes of a clear text at once
-pub pass : (g : Generator16) {start : ℕ} {part : List ℕ} {acc : ℕ} {behind : Bool} {i next end : ℕ} → Folding (register_after g) (after-nil g) (after-append g) true false start part acc behind i → KeptRun behind part i end
-    → next ≡ register_after g acc (take (end - i) (drop i part)) → Folding (register_after g) (after-nil g) (after-append g) true false start part next behind end
-pass g {start} {part} {acc} {behind} {i} {next} {end} w r e =
-    record {
-      within = r.within;
-      rest =
-          ap (λ x. register_after g x (kept_bytes true false behind (drop end part))) e
-          ∙ sym (ap (register_after g acc) r.kept ∙ after-append g acc (take (end - i) (drop i part)) (kept_bytes true false behind (drop end part))) ∙ w.rest;
-    }
+-- the run of a clear text, by the state of its bytes
+run_of : {clear seven behind : Bool} {bs : List ℕ} {n : ℕ} → clear ≡ true → seven ≡ false → KeptRun behind bs 0 n
+    → kept_bytes clear seven behind bs ≡ take n bs ++ kept_bytes clear seven behind (drop n bs)
+run_of {behind = behind} {bs = bs} {n = n} p q r = rw (p, q) (r.kept ∙ ap (λ m. take m bs ++ kept_bytes true false behind (drop n bs)) (sub-zero n))
+
+-- a byte of a clear text, and the run of kept bytes behind it at once
+pub pass : (g : List Bool) (k : Keeping) (acc : ℕ) {total entered next b n : ℕ} {k' : Keeping} {rest bs kept left : List ℕ} {keep : Bool}
+    → k.clear ≡ true → k.seven ≡ false → register_after g acc (kept_of k rest) ≡ total → rest ≡ b ∷ bs
+    → keep ≡ keeps k b → entered ≡ register_after g acc (cons_if keep b []) → k' ≡ after k b
+    → KeptRun k'.behind bs 0 n → kept ≡ take n bs → left ≡ drop n bs → next ≡ register_after g entered kept
+    → register_after g next (kept_of k' left) ≡ total
+pass g k acc {entered = entered} {b = b} {n = n} {k' = k'} {bs = bs} p q w e keep one s r front back run_entered =
+    ap₂ (λ x y. register_after g x (kept_of k' y)) (run_entered ∙ ap (register_after g entered) front) back
+    ∙ sym (after-append g entered (take n bs) (kept_of k' (drop n bs)))
+    ∙ ap (register_after g entered) (sym (run_of (ap (λ (x : Keeping). x.clear) s ∙ p) (ap (λ (x : Keeping). x.seven) s ∙ q) r))
+    ∙ ap (λ x. register_after g entered (kept_of x bs)) s
+    ∙ step (register_after g) (after-nil g) (after-append g) k b bs acc entered keep one
+    ∙ ap (λ x. register_after g acc (kept_of k x)) (sym e) ∙ w
+
+pub nothing-left : (g : List Bool) (k : Keeping) (acc : ℕ) (rest : List ℕ) {total : ℕ} → length rest ≡ 0 → register_after g acc (kept_of k rest) ≡ total → acc ≡ total
+unfolding kept_bytes
+nothing-left g k acc [] n w = sym (after-nil g acc) ∙ w
+nothing-left g k acc (b ∷ bs) n w = absurd (omega (arith, n))

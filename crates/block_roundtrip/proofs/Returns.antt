@@ -16,11 +16,8 @@ use Rattle.block.specs.declared.Parity.{Parity}
 use Rattle.block.specs.declared.Shape.{Shape}
 use Rattle.block.specs.declared.EndSign.{EndSign}
 use Rattle.block.specs.declared.Block.{Block}
-use Rattle.block.specs.declared.BlockWritten.{BlockWritten}
-use Rattle.block.specs.declared.BlockWritten.TheVariants as writes
+use Rattle.std.specs.Prelude.{Result, Ok, Err}
 use Rattle.block.specs.declared.WriteRefusal.{WriteRefusal}
-use Rattle.block.specs.declared.BlockRead.{BlockRead}
-use Rattle.block.specs.declared.BlockRead.TheVariants as reads
 use Rattle.block.specs.declared.ReadRefusal.{ReadRefusal}
 use Rattle.block.specs.Check.{check_of}
 use Rattle.block.specs.Marks.{counted, check_bytes}
@@ -29,9 +26,9 @@ use Rattle.block.specs.Write as writing
 use Rattle.block.specs.Answers.{of_read, of_read_answer, after_reading, read_call, write_number, write_value, of_written, of_write_answer, after_writing, write_call}
 use Rattle.guarantees.specs.Second.{parts_written}
 use Rattle.guarantees.proofs.Second.{second_property}
-use Rattle.roundtrip.proofs.Compared.{joined}
-use Rattle.block_roundtrip.specs.declared.BlockReturn.{BlockReturn}
-use Rattle.block_roundtrip.specs.declared.BlockReturn.TheVariants.{NotWritten, NotRead, Equal, Different}
+use Rattle.roundtrip.proofs.Comparing.{joined}
+use Rattle.roundtrip.specs.declared.RoundTripError.{RoundTripError}
+use Rattle.roundtrip.specs.declared.RoundTripError.TheVariants.{NotWritten, NotRead}
 use Rattle.roundtrip.specs.Returns.{Returned, refused, returned}
 use Rattle.block_roundtrip.specs.Returns.{block_back, block_answer, block_output, block_trip, block_returns, BlockOf, of_block_return}
 
@@ -69,18 +66,18 @@ module _ (m : Method) (p : Parity) (s : Shape) (e : EndSign) (head body line out
   back = block_back s e head body (length out)
 
   -- what write_block ensures
-  abbrev Writes : BlockWritten → List ℕ → Type 0
+  abbrev Writes : Result ℕ WriteRefusal → List ℕ → Type 0
   Writes w line₁ = called (of_written w) line₁ ≡ write_call m p s e head body line
 
   -- what the function ensures
-  abbrev Returns : BlockReturn → List ℕ → List ℕ → Type 0
+  abbrev Returns : Result Bool (RoundTripError WriteRefusal ReadRefusal) → List ℕ → List ℕ → Type 0
   Returns r line₁ out₁ = returned (of_block_return r) line₁ out₁ ≡ block_returns m p s e head body line out
 
-  pub not_written : (w : BlockWritten) {line₁ : List ℕ} → Writes w line₁ → {r : WriteRefusal} → w ≡ writes.Refused r → Returns (NotWritten r) line₁ out
+  pub not_written : (w : Result ℕ WriteRefusal) {line₁ : List ℕ} → Writes w line₁ → {r : WriteRefusal} → w ≡ Err r → Returns (Err (NotWritten r)) line₁ out
   not_written w {line₁ = line₁} h {r} q = go rule (ap (λ z. called (of_written z) line₁) (sym q) ∙ h)
     where
-      go : (a : writing.WriteAnswer) → called (of_written (writes.Refused r)) line₁ ≡ after_writing a line
-          → returned (of_block_return (NotWritten r)) line₁ out ≡ block_trip a back line out
+      go : (a : writing.WriteAnswer) → called (of_written (Err r)) line₁ ≡ after_writing a line
+          → returned (of_block_return (Err (NotWritten r))) line₁ out ≡ block_trip a back line out
       go (writing.refusal n v) g =
           let f = ap (λ c. c.answer) g in
           let i : write_number r ≡ n = cc in
@@ -97,11 +94,11 @@ module _ (m : Method) (p : Parity) (s : Shape) (e : EndSign) (head body line out
     pub within : n ≤ length line₁
     pub part : take n line₁ ≡ bytes
 
-  pub written_line : (w : BlockWritten) {line₁ : List ℕ} → Writes w line₁ → {n : ℕ} → w ≡ writes.Written n → WrittenLine n line₁
+  pub written_line : (w : Result ℕ WriteRefusal) {line₁ : List ℕ} → Writes w line₁ → {n : ℕ} → w ≡ Ok n → WrittenLine n line₁
   unfolding writing.write_output
   written_line w {line₁ = line₁} h {n} q = go rule refl (sym (ap of_written q) ∙ ap (λ c. c.answer) h) (ap (λ c. c.output) h)
     where
-      go : (a : writing.WriteAnswer) → rule ≡ a → of_written (writes.Written n) ≡ of_write_answer a → line₁ ≡ writing.write_output a line → WrittenLine n line₁
+      go : (a : writing.WriteAnswer) → rule ≡ a → of_written (Ok n) ≡ of_write_answer a → line₁ ≡ writing.write_output a line → WrittenLine n line₁
       go (writing.refusal k v) r g o = let z : ◌≡◌ {A = ℕ} 0 1 = cc in absurd (omega arith)
       go (writing.written l) r g o =
           let size : n ≡ length l = cc in
@@ -113,7 +110,7 @@ module _ (m : Method) (p : Parity) (s : Shape) (e : EndSign) (head body line out
           }
 
   -- what read_block ensures of these bytes
-  abbrev Reads : List ℕ → BlockRead → List ℕ → Type 0
+  abbrev Reads : List ℕ → Result Block ReadRefusal → List ℕ → Type 0
   Reads l r out₁ = called (of_read r) out₁ ≡ read_call m p l out
 
   pub record TakenBack (b : Block) (out₁ : List ℕ) : Type 0 where
@@ -121,7 +118,7 @@ module _ (m : Method) (p : Parity) (s : Shape) (e : EndSign) (head body line out
     pub room : length head + length body ≤ length out₁
     pub equal : BlockOf s e head body b out₁
 
-  module _ {n : ℕ} {line₁ : List ℕ} (w : WrittenLine n line₁) (r : BlockRead) {out₁ : List ℕ} (h : Reads (take n line₁) r out₁) where
+  module _ {n : ℕ} {line₁ : List ℕ} (w : WrittenLine n line₁) (r : Result Block ReadRefusal) {out₁ : List ℕ} (h : Reads (take n line₁) r out₁) where
     abbrev answered : Bool → ReadAnswer
     answered fits = cond fits (taken (parts_written s e head body)) (refusal 19 (length head + length body))
 
@@ -141,12 +138,12 @@ module _ (m : Method) (p : Parity) (s : Shape) (e : EndSign) (head body line out
         joined (a ∙ ap (λ z. block_answer z back) (sym w.by_rule)) l
         (ap (λ c. c.output) back_is ∙ ap (λ z. block_output z back out) (sym w.by_rule))
 
-    pub taken_back : {b : Block} → r ≡ reads.Taken b → TakenBack b out₁
+    pub taken_back : {b : Block} → r ≡ Ok b → TakenBack b out₁
     unfolding read_output
     taken_back {b} q = go (leb (length head + length body) (length out)) refl (sym (ap of_read q) ∙ ap (λ c. c.answer) back_is) (ap (λ c. c.output) back_is)
       where
         go : (fits : Bool) → leb (length head + length body) (length out) ≡ fits
-            → of_read (reads.Taken b) ≡ of_read_answer (answered fits)
+            → of_read (Ok b) ≡ of_read_answer (answered fits)
             → out₁ ≡ read_output (answered fits) out → TakenBack b out₁
         go false t g o = let z : ◌≡◌ {A = ℕ} 0 1 = cc in absurd (omega arith)
         go true t g o =
@@ -163,18 +160,18 @@ module _ (m : Method) (p : Parity) (s : Shape) (e : EndSign) (head body line out
                   };
             }
 
-    pub taken_returns : {b : Block} → r ≡ reads.Taken b → {equal : Bool} → (BlockOf s e head body b out₁ → equal ≡ true) → {answer : BlockReturn}
-        → answer ≡ cond equal Equal Different → line₁ ≡ writing.write_output rule line → Returns answer line₁ out₁
-    taken_returns q decided a l =
+    pub taken_returns : {b : Block} → r ≡ Ok b → {equal : Bool} → (BlockOf s e head body b out₁ → equal ≡ true)
+        → line₁ ≡ writing.write_output rule line → Returns (Ok equal) line₁ out₁
+    taken_returns q decided l =
         let t = taken_back q in
         of_written_lem
-        (ap of_block_return (a ∙ ap (λ z. cond z Equal Different) (decided t.equal)) ∙ ap (λ z. block_answer (writing.written w.bytes) (answered z)) (sym t.fits))
+        (ap (λ (z : Bool). of_block_return (Ok z)) (decided t.equal) ∙ ap (λ z. block_answer (writing.written w.bytes) (answered z)) (sym t.fits))
         l
 
-    pub refused_returns : {x : ReadRefusal} → r ≡ reads.Refused x → line₁ ≡ writing.write_output rule line → Returns (NotRead x) line₁ out₁
+    pub refused_returns : {x : ReadRefusal} → r ≡ Err x → line₁ ≡ writing.write_output rule line → Returns (Err (NotRead x)) line₁ out₁
     refused_returns {x} q l = of_written_lem (go (leb (length head + length body) (length out)) (sym (ap of_read q) ∙ ap (λ c. c.answer) back_is)) l
       where
-        go : (fits : Bool) → of_read (reads.Refused x) ≡ of_read_answer (answered fits)
-            → of_block_return (NotRead x) ≡ block_answer (writing.written w.bytes) (answered fits)
+        go : (fits : Bool) → of_read (Err x) ≡ of_read_answer (answered fits)
+            → of_block_return (Err (NotRead x)) ≡ block_answer (writing.written w.bytes) (answered fits)
         go true g = let z : ◌≡◌ {A = ℕ} 0 1 = cc in absurd (omega arith)
         go false g = cc

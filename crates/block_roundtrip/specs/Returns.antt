@@ -1,5 +1,5 @@
 -- What writing a block, reading it back and comparing answer, by the rules of writing and reading. Assumes nothing.
-use Rattle.std.specs.Prelude.{◌≡◌, ℕ, ◌+◌, cond, List, ◌++◌, leb, length, take}
+use Rattle.std.specs.Prelude.{◌≡◌, ℕ, ◌+◌, cond, Bool, true, false, List, ◌++◌, leb, length, take, Result, Ok, Err}
 use Rattle.block.specs.declared.Method.{Method}
 use Rattle.block.specs.declared.Parity.{Parity}
 use Rattle.block.specs.declared.Shape.{Shape}
@@ -11,19 +11,22 @@ use Rattle.block.specs.Read as reading
 use Rattle.block.specs.Write as writing
 use Rattle.guarantees.specs.Second.{parts_written}
 use Rattle.roundtrip.specs.Returns.{Returned, equal, different, refused, RoundTrip, returned}
-use Rattle.block_roundtrip.specs.declared.BlockReturn.{BlockReturn}
-use Rattle.block_roundtrip.specs.declared.BlockReturn.TheVariants as code
+use Rattle.block.specs.declared.ReadRefusal.{ReadRefusal}
+use Rattle.block.specs.declared.WriteRefusal.{WriteRefusal}
+use Rattle.roundtrip.specs.declared.RoundTripError.{RoundTripError}
+use Rattle.roundtrip.specs.declared.RoundTripError.TheVariants.{NotWritten, NotRead}
 
 -- what reading a written block answers, of an output of `space` bytes
 abbrev pub block_back : Shape → EndSign → List ℕ → List ℕ → ℕ → reading.ReadAnswer
 block_back s e head body space =
     cond (leb (length head + length body) space) (reading.taken (parts_written s e head body)) (reading.refusal 19 (length head + length body))
 
-abbrev pub of_block_return : BlockReturn → Returned
-of_block_return code.Equal = equal
-of_block_return (code.NotWritten r) = refused (answers.write_number r) (answers.write_value r)
-of_block_return (code.NotRead r) = refused (answers.read_number r) (answers.read_value r)
-of_block_return code.Different = different
+-- of whether the parts came back
+abbrev pub of_block_return : Result Bool (RoundTripError WriteRefusal ReadRefusal) → Returned
+of_block_return (Ok true) = equal
+of_block_return (Ok false) = different
+of_block_return (Err (NotWritten r)) = refused (answers.write_number r) (answers.write_value r)
+of_block_return (Err (NotRead r)) = refused (answers.read_number r) (answers.read_value r)
 
 -- of what writing answers and of what reading that would: `different` is no answer
 abbrev pub block_answer : writing.WriteAnswer → reading.ReadAnswer → Returned

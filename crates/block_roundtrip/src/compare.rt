@@ -1,11 +1,9 @@
 // What was read beside what was written.
 ghost use Rattle.std.specs.Prelude.{◌≡◌, ◌++◌, ◌+◌, ◌≤◌, length, take};
-ghost use Rattle.roundtrip.specs.Returns.{Decides};
+ghost use Rattle.std.specs.Bool.{Decides};
 ghost use Rattle.block_roundtrip.specs.Returns.{BlockOf};
 
-use block::{Block, EndSign, Shape, end_byte};
-use block_answers::shape_number;
-use check::same;
+use block::{Block, Parts};
 
 // Whether the output starts with header and text.
 fn same_parts(header: &[u8], text: &[u8], out: &[u8]) -> bool
@@ -14,30 +12,23 @@ fn same_parts(header: &[u8], text: &[u8], out: &[u8]) -> bool
 {
     let head = header.len();
     let end = head + text.len();
-    if !same(header, &out[..head]) {
+    if header != &out[..head] {
         return false;
     }
-    same(text, &out[head..end])
+    text == &out[head..end]
 }
 
 // Whether the block read is that of the parts written.
-pub(crate) fn same_block(
-    b: Block,
-    shape: Shape,
-    end: EndSign,
-    header: &[u8],
-    text: &[u8],
-    out: &[u8],
-) -> bool
-    requires { length header.now + length text.now ≤ length out.now }
-    ensures { Decides result (BlockOf shape end header.now text.now b out.now) }
+pub(crate) fn same_block(b: Block, parts: &Parts<'_>, out: &[u8]) -> bool
+    requires { length parts.now.header.now + length parts.now.text.now ≤ length out.now }
+    ensures { Decides result (BlockOf parts.now.shape parts.now.end parts.now.header.now parts.now.text.now b out.now) }
 {
-    let read_shape = b.shape;
-    let read_end = b.end;
-    if shape_number(read_shape) != shape_number(shape) {
+    let header = parts.header;
+    let text = parts.text;
+    if b.shape != parts.shape {
         return false;
     }
-    if end_byte(read_end) != end_byte(end) {
+    if b.end != parts.end {
         return false;
     }
     if b.header != header.len() {

@@ -1,18 +1,21 @@
 -- A byte of a run, as code tests it. Assumes nothing.
 use mathlib.Core.Path.{◌≡◌, refl, ap, ◌∙◌}
-use Prim.Native.Nat.{ℕ, zero, suc, ◌≤◌, ◌<◌}
+use Prim.Native.Nat.{ℕ, min, zero, suc, ◌+◌, ◌≤◌, ◌<◌}
 use native.Mathlib.Omega.{arith}
 use mathlib.Core.Bool.{Bool, true, false, cond, not, ◌&&◌, ◌||◌}
 use mathlib.Core.List.{List, [], ◌∷◌}
 use lib.Bits.{bit_xor, xor_self}
 use lib.Dec.{eqb, ltb}
+use lib.ListN.{get_or}
+use borrow.Author.Count.{below_more}
 use borrow.Author.Tests.{ltb-true, eqb-false, ne_eqb, not-true}
 use Rattle.block.specs.Signs.{SOH, STX, ETX, DLE, SYN, ETB, US, soh, stx, etx, dle, syn, etb, us, other, sign_of}
 use Rattle.block.specs.Characters.{character}
 use Rattle.block.specs.Write.{is_other, is_free}
-use Rattle.block.specs.Scan.{first_failing}
+use Rattle.block.specs.Scan.{first_failing, AllPass}
 use Rattle.block.proofs.NoSign.{NoSign, no_sign, above_none}
-use Rattle.block.proofs.Scans.{scan_same, both}
+use Rattle.std.proofs.lemmas.Bool.{and_parts}
+use Rattle.block.proofs.Scans.{scan_same}
 use Rattle.block.proofs.SignTests.{dle_test}
 use Rattle.block_scan.specs.Tests.{is_plain_byte, is_clear_byte, OffSigns}
 
@@ -52,7 +55,7 @@ module _ (seven low : Bool) (b : ℕ) {c : ℕ} (char : c ≡ character seven b)
   pub above_plain : (ltb US c && (not low || ltb b 0x80)) ≡ true → is_plain_byte seven low b ≡ true
   unfolding is_plain_byte
   above_plain e =
-      let p = both (ltb US c) (not low || ltb b 0x80) e in
+      let p = and_parts (ltb US c) (not low || ltb b 0x80) e in
       rw (← char, no_sign c (above_none c (ltb-true US c p.0)), p.1)
 
   -- what differs from every sign is none
@@ -61,13 +64,13 @@ module _ (seven low : Bool) (b : ℕ) {c : ℕ} (char : c ≡ character seven b)
   off_plain h e = rw (← char, no_sign c (off_none c h), e)
 
   -- one byte more, where all were below 80 and the least was not 0
-  pub least_plain : (below : Bool) {least next far : ℕ} → (0 < far → OffSigns c) → (next ≤ least) × (next ≤ far)
+  pub least_plain : (below : Bool) (least : ℕ) {next far : ℕ} → (0 < far → OffSigns c) → next ≡ min least far
       → ((below && (not low || ltb b 0x80)) && not (eqb next 0)) ≡ true → ((below && not (eqb least 0)) ≡ true) × (is_plain_byte seven low b ≡ true)
-  least_plain below {least} {next} {far} off h e =
-      let p = both (below && (not low || ltb b 0x80)) (not (eqb next 0)) e in
-      let q = both below (not low || ltb b 0x80) p.0 in
+  least_plain below least {next} {far} each h e =
+      let p = and_parts (below && (not low || ltb b 0x80)) (not (eqb next 0)) e in
+      let q = and_parts below (not low || ltb b 0x80) p.0 in
       let n : next ≡ 0 → ⊥ = eqb-false next 0 (not-true (eqb next 0) p.1) in
-      (rw (q.0, ne_eqb least 0 (λ z. n (omega (arith, h.0)))), off_plain (off (positive far (λ z. n (omega (arith, h.1))))) q.1)
+      (rw (q.0, ne_eqb least 0 (λ z. n (omega (arith, h)))), off_plain (each (positive far (λ z. n (omega (arith, h))))) q.1)
 
 pub clear_byte : (seven : Bool) (b : ℕ) {c : ℕ} → c ≡ character seven b → not (eqb c DLE) ≡ is_clear_byte seven b
 unfolding is_clear_byte
@@ -83,3 +86,8 @@ pub no_run : {test : ℕ → Bool} (l : List ℕ) → ((b : ℕ) → test b ≡ 
 unfolding first_failing
 no_run [] h = refl
 no_run (b ∷ l) h = rw (h b)
+
+-- one byte more of those passed over, whatever is true only where all before it and it are data
+pub one_more : (test : ℕ → Bool) (l : List ℕ) {i : ℕ} {all next : Bool} → (all ≡ true → AllPass test l 0 i) → (next ≡ true → (all ≡ true) × (test (get_or l i 0) ≡ true))
+    → next ≡ true → AllPass test l 0 (i + 1)
+one_more test l {i} before here e k p q = below_more (λ j. 0 ≤ j → test (get_or l j 0) ≡ true) i (λ j r z. before (here e).0 j z r) (λ z. (here e).1) k (omega (arith, q)) p

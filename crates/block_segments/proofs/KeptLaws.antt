@@ -1,14 +1,12 @@
 -- The bytes that a segment keeps: what one byte adds, and how many they are. Assumes nothing.
 use mathlib.Core.Path.{◌≡◌, refl, sym, ap, ◌∙◌}
-use Prim.Native.Nat.{ℕ, ◌+◌, ◌≤◌, ◌<◌}
-use native.Mathlib.Numerals.{add-one}
+use Prim.Native.Nat.{ℕ, ◌≤◌}
 use native.Mathlib.Omega.{arith}
 use mathlib.Core.Bool.{Bool, true, false, cond}
 use mathlib.Core.List.{List, [], ◌∷◌, ◌++◌}
 use borrow.Author.Tests.{eqb-true}
 use lib.Dec.{eqb}
-use lib.ListN.{length, get_or, drop, drop_of_length-le}
-use lib.Seq.{drop-cons}
+use lib.ListN.{length}
 use Rattle.bits.specs.Differences.{cons_if}
 use Rattle.block_framing.specs.Framings.{is_kept, next_behind, kept_bytes}
 use Rattle.block_segments.specs.Segment.{segment_bytes}
@@ -16,22 +14,6 @@ use Rattle.block_segments.specs.Segment.{segment_bytes}
 pub cons_if-append : (t : Bool) (b : ℕ) (xs ys : List ℕ) → cons_if t b (xs ++ ys) ≡ cons_if t b xs ++ ys
 cons_if-append true b xs ys = refl
 cons_if-append false b xs ys = refl
-
--- the rest of a segment: its first byte, if it is kept, and what follows
-module _ (clear seven behind : Bool) (part : List ℕ) (i : ℕ) where
-  pub kept_next : i < length part
-      → kept_bytes clear seven behind (drop i part)
-      ≡ cons_if (is_kept clear seven behind (get_or part i 0)) (get_or part i 0) [] ++ kept_bytes clear seven (next_behind clear behind (get_or part i 0)) (drop (i + 1) part)
-  unfolding kept_bytes
-  kept_next h =
-      let b = get_or part i 0 in
-      ap (kept_bytes clear seven behind) (drop-cons part i 0 h)
-      ∙ ap (λ n. cons_if (is_kept clear seven behind b) b (kept_bytes clear seven (next_behind clear behind b) (drop n part))) (sym (add-one i))
-      ∙ cons_if-append (is_kept clear seven behind b) b [] (kept_bytes clear seven (next_behind clear behind b) (drop (i + 1) part))
-
-  pub kept-none : length part ≤ i → kept_bytes clear seven behind (drop i part) ≡ []
-  unfolding kept_bytes
-  kept-none h = ap (kept_bytes clear seven behind) (drop_of_length-le part h)
 
 -- ---- a segment that keeps every byte
 

@@ -1,29 +1,22 @@
 // The characters of a segment copied to the start of an output. What does not fit there is left out.
-ghost use Rattle.std.specs.Prelude.{◌≡◌, false, [], ◌++◌, map, ◌+◌, ◌<◌, ◌≤◌, length};
+ghost use Rattle.std.specs.Prelude.{◌≡◌, false, [], ◌∷◌, ◌++◌, map, ◌+◌, ◌<◌, length};
 ghost use Rattle.std.proofs.lemmas.List.Edits.{sets};
-ghost use Rattle.bits.specs.Differences.{cons_if};
 ghost use Rattle.block.specs.Characters as rule;
 ghost use Rattle.block_framing.specs.Framings.{kept_bytes};
 ghost use Rattle.block_segments.specs.Segment.{segment_bytes};
 
-use crate::kept::{is_kept, next_behind};
+use crate::kept::Keeping;
 use block::character;
 
-// Stores b at n where it is kept and the output has that place, and answers the next place.
-fn put_if(out: &mut [u8], n: usize, keep: bool, b: u8) -> usize
+// Stores b at n where the output has that place, and answers the next place.
+fn put(out: &mut [u8], n: usize, b: u8) -> usize
     requires { n < 18446744073709551615 }
-    ensures { (result ≡ n + length (cons_if keep b [])) × (out.new ≡ sets out.old n (cons_if keep b [])) }
+    ensures { (result ≡ n + 1) × (out.new ≡ sets out.old n (b ∷ [])) }
 {
-    if keep {
-        if n < out.len() {
-            out[n] = b;
-            n + 1
-        } else {
-            n + 1
-        }
-    } else {
-        n
+    if n < out.len() {
+        out[n] = b;
     }
+    n + 1
 }
 
 // The characters of the kept bytes of a segment, judged byte by byte; answers how many they are.
@@ -31,38 +24,22 @@ pub fn copy_kept(seven: bool, clear: bool, part: &[u8], out: &mut [u8]) -> usize
     ensures { (result ≡ length (kept_bytes clear seven false part.now)) × (out.new ≡ sets out.old 0 (map (rule.character seven) (kept_bytes clear seven false part.now))) }
 {
     let mut n = 0;
-    let mut behind = false;
-    let mut i = 0;
-    while i < part.len() {
-        let b = part[i];
-        n = put_if(
-            &mut *out,
-            n,
-            is_kept(clear, seven, behind, b),
-            character(seven, b),
-        );
-        behind = next_behind(clear, behind, b);
-        i += 1;
+    let mut keeping = Keeping::new(clear, seven);
+    for b in part {
+        if keeping.keeps(*b) {
+            n = put(&mut *out, n, character(seven, *b));
+        }
     }
     n
-}
-
-// How many of `size` bytes fit into an output of `room` bytes.
-fn fitting(size: usize, room: usize) -> usize
-    ensures { (result ≤ size) × (result ≤ room) × (result < size → room ≤ result) }
-{
-    if size < room { size } else { room }
 }
 
 // The characters of a segment that keeps every byte.
 fn copy_whole(seven: bool, part: &[u8], out: &mut [u8])
     ensures { out.new ≡ sets out.old 0 (map (rule.character seven) part.now) }
 {
-    let size = fitting(part.len(), out.len());
-    let mut i = 0;
-    while i < size {
-        out[i] = character(seven, part[i]);
-        i += 1;
+    let fits = &part[..part.len().min(out.len())];
+    for (i, b) in fits.iter().enumerate() {
+        out[i] = character(seven, *b);
     }
 }
 

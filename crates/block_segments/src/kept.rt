@@ -5,6 +5,7 @@ ghost use Rattle.block_framing.specs.Framings.{is_kept, next_behind};
 use block::{DLE, SYN, character};
 
 // Whether a byte is kept, `behind` a DLE of clear text or not.
+#[tactic(auto, unfolding(block_framing::specs::Framings::is_kept))]
 pub fn is_kept(clear: bool, seven: bool, behind: bool, b: u8) -> bool
     ensures { result ≡ is_kept clear seven behind b }
 {
@@ -16,6 +17,7 @@ pub fn is_kept(clear: bool, seven: bool, behind: bool, b: u8) -> bool
 }
 
 // Whether the next byte stands behind a DLE of clear text.
+#[tactic(auto, unfolding(block_framing::specs::Framings::next_behind))]
 pub fn next_behind(clear: bool, behind: bool, b: u8) -> bool
     ensures { result ≡ next_behind clear behind b }
 {
@@ -23,5 +25,37 @@ pub fn next_behind(clear: bool, behind: bool, b: u8) -> bool
         if behind { false } else { b == DLE }
     } else {
         false
+    }
+}
+
+// A segment's bytes judged one after the other.
+#[derive(Clone, Copy)]
+pub struct Keeping {
+    pub clear: bool,
+    pub seven: bool,
+    pub behind: bool,
+}
+
+impl Keeping {
+    ghost use Rattle.block_segments.specs.Kept.{begin, keeps, after};
+
+    // At the start of a segment.
+    pub fn new(clear: bool, seven: bool) -> Self
+        ensures { result ≡ begin clear seven }
+    {
+        Keeping {
+            clear,
+            seven,
+            behind: false,
+        }
+    }
+
+    // Whether the next byte of the segment is kept.
+    pub fn keeps(&mut self, b: u8) -> bool
+        ensures { (result ≡ keeps self.old b) × (self.new ≡ after self.old b) }
+    {
+        let keeps = is_kept(self.clear, self.seven, self.behind, b);
+        self.behind = next_behind(self.clear, self.behind, b);
+        keeps
     }
 }

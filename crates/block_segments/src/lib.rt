@@ -7,5 +7,5 @@ mod kept;
 mod sum;
 
 pub use copy::{copy_both, copy_kept};
-pub use kept::{is_kept, next_behind};
+pub use kept::{Keeping, is_kept, next_behind};
 pub use sum::sum_kept;

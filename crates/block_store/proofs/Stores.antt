@@ -1,17 +1,18 @@
 -- Bytes stored one after the other: laws of `Stored`, and the loops that make and store a part. Assumes nothing.
-use mathlib.Core.Path.{◌≡◌, refl, sym, ap, ◌∙◌}
-use Prim.Native.Nat.{ℕ, suc, ◌+◌, ◌-◌, ◌≤◌, ◌<◌}
+use mathlib.Core.Path.{◌≡◌, refl, sym, ap, ap₂, ◌∙◌}
+use Prim.Native.Nat.{ℕ, suc, ◌+◌, ◌≤◌, ◌<◌}
 use native.Mathlib.Numerals.{add-one}
 use native.Mathlib.Omega.{arith}
 use mathlib.Core.Bool.{Bool, true, false}
 use mathlib.Core.List.{List, [], ◌∷◌, ◌++◌, map, append_assoc, append-nil}
 use lib.Dec.{eqb, ltb}
 use borrow.Author.Tests.{ltb-true, ltb-false}
-use lib.ListN.{length, get_or, set, take, drop, length-set, length-drop, take-append-drop, drop_of_length-le}
-use lib.Seq.{drop-cons, set_out, take_all, take-suc, take-suc-set, sets, sets-eq, length-sets}
+use lib.ListN.{length, get_or, set, take, drop, length-set, length-map, length-take, take-append-drop, drop_of_length-le}
+use borrow.Rule.Slice.PartMut.{put_mid}
+use lib.Seq.{drop-cons, drop-drop, set_out, sets, sets-eq, length-sets}
 use Rattle.block.specs.Signs.{DLE}
 use Rattle.block.specs.Write.{doubled, escaped}
-use Rattle.block.proofs.Lists.{map-append}
+use Rattle.block.proofs.Lists.{map-append, sets_append}
 use Rattle.block_store.specs.Store.{Stored}
 
 -- nothing is stored behind the end
@@ -53,9 +54,6 @@ pub record Storing (before : List ℕ) (at : ℕ) (bytes after : List ℕ) (next
   pub same : length after ≡ length before
   pub ahead : {out : List ℕ} {n : ℕ} → Stored after next left out n → Stored before at bytes out n
 
-pub begin : {before bytes : List ℕ} {at : ℕ} → Storing before at bytes before at bytes
-begin = record { same = refl; ahead = λ s. s }
-
 pub turn : {before bytes after left out xs rest : List ℕ} {at next n : ℕ} → Storing before at bytes after next left → left ≡ xs ++ rest
     → Stored after next xs out n → Storing before at bytes out n rest
 turn s e t = record { same = length-stored t ∙ s.same; ahead = λ u. s.ahead (stored_as (sym e) (stored-append t u)) }
@@ -70,11 +68,6 @@ pub drop_on : (part : List ℕ) (i : ℕ) → i < length part → drop i part �
 drop_on part i h = rw (drop-cons part i 0 h, add-one)
 
 module _ (f : ℕ → ℕ) (part : List ℕ) (i : ℕ) where
-  pub map_turn : {before bytes after : List ℕ} {at next n b : ℕ} → Storing before at bytes after next (map f (drop i part)) → i < length part
-      → b ≡ f (get_or part i 0) → n ≡ next + 1 → Storing before at bytes (set after next b) n (map f (drop (i + 1) part))
-  map_turn {after = after} {next = next} {b = b} s h e k =
-      turn s (ap (map f) (drop_on part i h)) (stored_as (ap (λ x. x ∷ []) e) (stored_one b after next k))
-
   -- all characters, or all that have room
   pub map-all : {before bytes after : List ℕ} {at next : ℕ} → Storing before at bytes after next (map f (drop i part))
       → (i < length part → length after ≤ next) → Stored before at bytes after next
@@ -84,15 +77,21 @@ module _ (f : ℕ → ℕ) (part : List ℕ) (i : ℕ) where
       go true e = s.ahead (stored_out (map f (drop i part)) (h (ltb-true i (length part) e)))
       go false e = whole s (ap (map f) (drop_of_length-le part (ltb-false i (length part) e)))
 
-  -- the first characters, made one after the other
-  pub made_on : (bytes : List ℕ) → i < length part → i < length bytes → take i bytes ≡ map f (take i part)
-      → take (i + 1) (set bytes i (f (get_or part i 0))) ≡ map f (take (i + 1) part)
-  made_on bytes h l e =
-      rw (add-one, take-suc-set bytes i (f (get_or part i 0)) l, take-suc part i 0 h, map-append f (take i part) (get_or part i 0 ∷ []), e)
-
-  pub map-parts : map f (take i part) ++ map f (take (length part - i) (drop i part)) ≡ map f part
-  map-parts =
-      rw (take_all (length part - i) (drop i part) (omega (arith, length-drop i part))) (sym (map-append f (take i part) (drop i part)) ∙ ap (map f) (take-append-drop i part))
+-- the first k characters stored at once, and the rest behind them
+pub first_at_once : (f : ℕ → ℕ) (k : ℕ) (part before : List ℕ) (at : ℕ) {m next : ℕ} {first rest bytes after : List ℕ} → at + k ≤ length before → k ≤ length part → m ≡ k
+    → first ≡ take k part → rest ≡ drop k part → bytes ≡ map f first
+    → Stored (put_mid at m before bytes) (at + k) (map f rest) after next → Stored before at (map f part) after next
+first_at_once f k part before at {m} {next} {first} {rest} {bytes} {after} fits enough e one two made s =
+    let long : length bytes ≡ k = omega (arith, ap length made, length-map first f, ap length one, length-take k part, enough) in
+    let n : at + length bytes ≡ at + k = omega (arith, long) in
+    let stored : put_mid at m before bytes ≡ sets before at bytes =
+    sym (append_assoc (take at before) bytes (drop m (drop at before)))
+    ∙ ap (λ x. take at before ++ bytes ++ x) (drop-drop m at before ∙ ap (λ j. drop j before) (ap (λ j. at + j) e ∙ sym n))
+    ∙ sym (sets-eq bytes before at (omega (arith, fits, long))) in
+    let ahead : Stored before at bytes (put_mid at m before bytes) (at + k) =
+    record { behind = λ more. ap₂ (λ x j. sets x j more) stored (sym n) ∙ sym (sets_append bytes more before at) } in
+    stored_as (ap₂ (λ x y. x ++ map f y) made two ∙ sym (map-append f first (drop k part)) ∙ ap (λ x. map f (x ++ drop k part)) one ∙ ap (map f) (take-append-drop k part))
+    (stored-append ahead s)
 
 doubled-append : (t : Bool) (b : ℕ) (bs : List ℕ) → doubled t b bs ≡ doubled t b [] ++ bs
 doubled-append true b bs = refl

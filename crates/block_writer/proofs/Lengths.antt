@@ -1,14 +1,13 @@
 -- Lengths: of escaped text and of the line. Assumes nothing.
-use mathlib.Core.Path.{◌≡◌, ap, ap₂, ◌∙◌}
-use Prim.Native.Nat.{ℕ, suc, ◌+◌, ◌*◌, ◌≤◌, ◌<◌}
-use native.Mathlib.Numerals.{add-one}
+use mathlib.Core.Path.{◌≡◌, refl, ap, ap₂, ◌∙◌}
+use Prim.Native.Nat.{ℕ, ◌+◌, ◌*◌, ◌≤◌}
 use native.Mathlib.Omega.{arith}
 use mathlib.Core.Bool.{Bool, true, false, cond}
 use mathlib.Core.List.{List, [], ◌∷◌, ◌++◌}
 use lib.Dec.{eqb}
-use lib.ListN.{length, get_or, drop, length-append, length-map, drop_of_length-le}
-use lib.Seq.{drop-cons}
-use borrow.Author.Tests.{eq-eqb, ne_eqb}
+use lib.ListN.{length, length-append, length-map}
+use Rattle.std.proofs.lemmas.List.Sums.{sum_by-cons}
+use Rattle.std.specs.List.{count_by}
 use Rattle.bits.specs.Bytes.{pack}
 use Rattle.block.specs.declared.Method.{Method}
 use Rattle.block.specs.declared.Parity.{Parity}
@@ -23,13 +22,9 @@ use Rattle.block_signs.specs.Signs.{end_signs}
 use Rattle.block_line.specs.Line.{text_bytes}
 use Rattle.block_line.proofs.Lines.{framed-parts}
 
--- ---- escaped text: a loop that counts it up
+-- ---- escaped text
 
-length-doubled : (t : Bool) (b : ℕ) (bs : List ℕ) → length (doubled t b bs) ≡ cond t 2 1 + length bs
-length-doubled true b bs = omega arith
-length-doubled false b bs = omega arith
-
-escaped_short : (bs : List ℕ) → length (escaped bs) ≤ 2 * length bs
+pub escaped_short : (bs : List ℕ) → length (escaped bs) ≤ 2 * length bs
 unfolding escaped
 escaped_short [] = omega arith
 escaped_short (b ∷ bs) = go (eqb b DLE) (escaped_short bs)
@@ -43,31 +38,16 @@ unfolding text_bytes
 text_short true body = escaped_short body
 text_short false body = omega arith
 
-pub record Counting (part : List ℕ) (n i : ℕ) : Type 0 where
-  pub small : n ≤ 2 * i
-  pub rest : n + length (escaped (drop i part)) ≡ length (escaped part)
-
-module _ {part : List ℕ} {n i : ℕ} (k : Counting part n i) (h : i < length part) where
-  here : length (escaped (drop i part)) ≡ cond (eqb (get_or part i 0) DLE) 2 1 + length (escaped (drop (i + 1) part))
-  unfolding escaped
-  here = rw (drop-cons part i 0 h, add-one) (length-doubled (eqb (get_or part i 0) DLE) (get_or part i 0) (escaped (drop (suc i) part)))
-
-  pub count-two : get_or part i 0 ≡ DLE → Counting part (n + 1 + 1) (i + 1)
-  count-two e =
-      let g = rw (eq-eqb (get_or part i 0) DLE e) at here in
-      record { small = omega (arith, k.small); rest = omega (arith, g, k.rest) }
-
-  pub count_one : (get_or part i 0 ≡ DLE → ⊥) → Counting part (n + 1) (i + 1)
-  count_one e =
-      let g = rw (ne_eqb (get_or part i 0) DLE e) at here in
-      record { small = omega (arith, k.small); rest = omega (arith, g, k.rest) }
-
-pub count_begin : {part : List ℕ} → Counting part 0 0
-count_begin {part} = record { small = omega arith; rest = omega arith }
-
-pub count-all : {part : List ℕ} {n i : ℕ} → Counting part n i → length part ≤ i → n ≡ length (escaped part)
+-- a byte more for each DLE
+pub escaped_count : (bs : List ℕ) → length bs + count_by (λ b. eqb b DLE) bs ≡ length (escaped bs)
 unfolding escaped
-count-all {part} {n} k h = omega (arith, k.rest, ap (λ l. length (escaped l)) (drop_of_length-le part h))
+escaped_count [] = refl
+escaped_count (b ∷ bs) =
+    ap (λ n. length (b ∷ bs) + n) (sum_by-cons (λ x. cond (eqb x DLE) 1 0) b bs) ∙ go (eqb b DLE) (escaped_count bs)
+  where
+    go : (t : Bool) → length bs + count_by (λ x. eqb x DLE) bs ≡ length (escaped bs) → length (b ∷ bs) + (cond t 1 0 + count_by (λ x. eqb x DLE) bs) ≡ length (doubled t b (escaped bs))
+    go true h = omega (arith, h)
+    go false h = omega (arith, h)
 
 -- ---- the line
 

@@ -16,8 +16,7 @@ use Rattle.block.specs.declared.WriteRefusal.{WriteRefusal}
 use Rattle.block.specs.Answers.{Numbers, line, refused, write_number, write_value, after_writing, write_call}
 use Rattle.block_store.specs.Store.{Stored}
 use Rattle.block_store.proofs.Stores.{stored_front}
-use Rattle.block_parts.specs.declared.PartsAsked.{PartsAsked}
-use Rattle.block_parts.specs.declared.PartsAsked.TheVariants.{Passed, Refused}
+use Rattle.std.specs.Prelude.{Result, Ok, Err}
 use Rattle.block_parts.specs.Parts.{ask_parts, after_asked}
 use Rattle.block_parts.proofs.Asking.{parts-passed}
 use Rattle.block_writer.specs.Writing.{ask_room}
@@ -41,7 +40,7 @@ module _ (bytes out : List ℕ) {needed : ℕ} (n : needed ≡ length bytes) whe
 
 -- ---- the questions on the parts come first
 
-module _ (m : Method) (p : Parity) (s : Shape) (e : EndSign) (head body out : List ℕ) (r : PartsAsked) {seven : Bool} (v : seven ≡ is_seven m)
+module _ (m : Method) (p : Parity) (s : Shape) (e : EndSign) (head body out : List ℕ) (r : Result Unit WriteRefusal) {seven : Bool} (v : seven ≡ is_seven m)
     (asked : (next : WriteAnswer) → after_asked r next ≡ ask_parts seven s head body next) where
   first : (next : WriteAnswer) → after_asked r next ≡ ask_parts (is_seven m) s head body next
   first next = asked next ∙ ap (λ t. ask_parts t s head body next) v
@@ -50,15 +49,15 @@ module _ (m : Method) (p : Parity) (s : Shape) (e : EndSign) (head body out : Li
   unfolding write_block ask_parts
   parts_first = first (ask_room (line_of m p s e head body) (length out))
 
-  pub parts_refused : {w : WriteRefusal} → r ≡ Refused w → called (refused (write_number w) (write_value w)) out ≡ write_call m p s e head body out
+  pub parts_refused : {w : WriteRefusal} → r ≡ Err w → called (refused (write_number w) (write_value w)) out ≡ write_call m p s e head body out
   unfolding write_output
   parts_refused {w} h =
-      ap (λ a. after_writing a out) (ap (λ (t : PartsAsked). after_asked t (ask_room (line_of m p s e head body) (length out))) (sym h) ∙ parts_first)
+      ap (λ a. after_writing a out) (ap (λ (t : Result Unit WriteRefusal). after_asked t (ask_room (line_of m p s e head body) (length out))) (sym h) ∙ parts_first)
 
-  pub parts_allowed : r ≡ Passed → (length head ≤ 4096) × (length body ≤ 4096)
-  parts_allowed h = parts-passed (is_seven m) s head body (ap (λ (t : PartsAsked). after_asked t (written [])) (sym h) ∙ first (written []))
+  pub parts_allowed : r ≡ Ok tt → (length head ≤ 4096) × (length body ≤ 4096)
+  parts_allowed h = parts-passed (is_seven m) s head body (ap (λ (t : Result Unit WriteRefusal). after_asked t (written [])) (sym h) ∙ first (written []))
 
-  pub parts_written_lem : {answer : Numbers} {after : List ℕ} → r ≡ Passed
+  pub parts_written_lem : {answer : Numbers} {after : List ℕ} → r ≡ Ok tt
       → called answer after ≡ after_writing (ask_room (line_of m p s e head body) (length out)) out → called answer after ≡ write_call m p s e head body out
   parts_written_lem h c =
-      c ∙ ap (λ a. after_writing a out) (ap (λ (t : PartsAsked). after_asked t (ask_room (line_of m p s e head body) (length out))) (sym h) ∙ parts_first)
+      c ∙ ap (λ a. after_writing a out) (ap (λ (t : Result Unit WriteRefusal). after_asked t (ask_room (line_of m p s e head body) (length out))) (sym h) ∙ parts_first)

@@ -1,5 +1,5 @@
 -- What the C calls answer, by the rules of blocks, frames and numbers. Assumes nothing.
-use Rattle.std.specs.Prelude.{ℕ, List, [], ◌∷◌, replicate}
+use Rattle.std.specs.Prelude.{ℕ, List, [], ◌∷◌, replicate, Option, Some, None}
 use Rattle.bits.specs.Calls as rule
 use Rattle.block.specs.Answers as block
 use Rattle.frame.specs.Answers as frame
@@ -7,12 +7,9 @@ use Rattle.number.specs.Number.{Outcome, receiving}
 use Rattle.answers.specs.declared.ValueNumbers.{ValueNumbers}
 use Rattle.answers.specs.declared.VerdictNumbers.{VerdictNumbers}
 use Rattle.answers.specs.Numbers.{read_numbers, written_numbers, frame_numbers, verdict_numbers}
-use Rattle.codes.specs.declared.LinkCode.{LinkCode}
-use Rattle.codes.specs.declared.LinkCode.TheVariants as link
-use Rattle.codes.specs.declared.FormatCode.{FormatCode}
-use Rattle.codes.specs.declared.FormatCode.TheVariants as format
-use Rattle.codes.specs.declared.FrameMethodCode.{FrameMethodCode}
-use Rattle.codes.specs.declared.FrameMethodCode.TheVariants as frameMethod
+use Rattle.block.specs.declared.Link.{Link}
+use Rattle.frame.specs.declared.FrameMethod.{FrameMethod}
+use Rattle.codes.specs.declared.Format.{Format}
 use Rattle.codes.specs.Codes.{link_of, format_of, frame_method_of}
 
 -- the number that a call returns, and the answer and the output afterwards
@@ -37,9 +34,9 @@ value_call numbers output = called numbers.number (numbers.value ∷ []) output
 abbrev pub after_reading_block : rule.Call block.Numbers → Call
 after_reading_block c = called (read_numbers c.answer).number (read_numbers c.answer).values c.output
 
-abbrev pub read_block_by : LinkCode → List ℕ → List ℕ → Call
-read_block_by link.Unknown line out = unknown_code 5 out
-read_block_by (link.Known m p) line out = after_reading_block (block.read_call m p line out)
+abbrev pub read_block_by : Option Link → List ℕ → List ℕ → Call
+read_block_by None line out = unknown_code 5 out
+read_block_by (Some l) line out = after_reading_block (block.read_call l.method l.parity line out)
 
 -- of `method`, `parity`, the line and the output
 abbrev pub read_block_call : ℕ → ℕ → List ℕ → List ℕ → Call
@@ -48,10 +45,10 @@ read_block_call m p line out = read_block_by (link_of m p) line out
 abbrev pub after_writing_block : rule.Call block.Numbers → Call
 after_writing_block c = value_call (written_numbers c.answer) c.output
 
-abbrev pub write_block_by : LinkCode → FormatCode → List ℕ → List ℕ → List ℕ → Call
-write_block_by link.Unknown f header text out = unknown_code 1 out
-write_block_by (link.Known m p) format.Unknown header text out = unknown_code 1 out
-write_block_by (link.Known m p) (format.Known s e) header text out = after_writing_block (block.write_call m p s e header text out)
+abbrev pub write_block_by : Option Link → Option Format → List ℕ → List ℕ → List ℕ → Call
+write_block_by None f header text out = unknown_code 1 out
+write_block_by (Some l) None header text out = unknown_code 1 out
+write_block_by (Some l) (Some f) header text out = after_writing_block (block.write_call l.method l.parity f.shape f.end header text out)
 
 -- of `method`, `parity`, `shape`, `end_sign`, header, text and the output
 abbrev pub write_block_call : ℕ → ℕ → ℕ → ℕ → List ℕ → List ℕ → List ℕ → Call
@@ -62,17 +59,17 @@ write_block_call m p s e header text out = write_block_by (link_of m p) (format_
 abbrev pub frame_call : rule.Call frame.Numbers → Call
 frame_call c = value_call (frame_numbers c.answer) c.output
 
-abbrev pub read_frame_by : FrameMethodCode → ℕ → List ℕ → List ℕ → Call
-read_frame_by frameMethod.Unknown bits lent out = unknown_code 1 out
-read_frame_by (frameMethod.Known m) bits lent out = frame_call (frame.read_call m bits lent out)
+abbrev pub read_frame_by : Option FrameMethod → ℕ → List ℕ → List ℕ → Call
+read_frame_by None bits lent out = unknown_code 1 out
+read_frame_by (Some m) bits lent out = frame_call (frame.read_call m bits lent out)
 
 -- of `method`, the told bits, the bytes lent and the output
 abbrev pub read_frame_call : ℕ → ℕ → List ℕ → List ℕ → Call
 read_frame_call m bits lent out = read_frame_by (frame_method_of m) bits lent out
 
-abbrev pub write_frame_by : FrameMethodCode → List ℕ → List ℕ → Call
-write_frame_by frameMethod.Unknown content out = unknown_code 1 out
-write_frame_by (frameMethod.Known m) content out = frame_call (frame.write_call m content out)
+abbrev pub write_frame_by : Option FrameMethod → List ℕ → List ℕ → Call
+write_frame_by None content out = unknown_code 1 out
+write_frame_by (Some m) content out = frame_call (frame.write_call m content out)
 
 -- of `method`, the content and the output
 abbrev pub write_frame_call : ℕ → List ℕ → List ℕ → Call

@@ -3,10 +3,11 @@ ghost use Rattle.std.specs.Prelude.{◌≡◌, [], ◌∷◌};
 ghost use Rattle.corridor.specs.Calls.{called, read_block_call, write_block_call};
 
 use crate::UNKNOWN_CODE;
+use block::Parts;
 use block_answers::{block_read, block_written};
 use block_reader::read_block;
 use block_writer::write_block;
-use codes::{FormatCode, LinkCode, format_of, link_of};
+use codes::{format_of, link_of};
 
 // Reads one block. After a success the answer is shape, end sign, lengths of header and text, and the counted number; after a
 // refusal it is the refusal's place or needed bytes, then zeros.
@@ -20,10 +21,10 @@ pub fn corridor_read_block(
     ensures { called result answer.new out.new ≡ read_block_call method parity line.now out.old }
 {
     *answer = [0; 5];
-    let LinkCode::Known(m, p) = link_of(method, parity) else {
+    let Some(link) = link_of(method, parity) else {
         return UNKNOWN_CODE;
     };
-    let read = block_read(read_block(m, p, line, &mut *out));
+    let read = block_read(read_block(link, line, &mut *out));
     let values = read.values;
     *answer = values;
     read.number
@@ -43,13 +44,19 @@ pub fn corridor_write_block(
     ensures { called result (value.new ∷ []) out.new ≡ write_block_call method parity shape end_sign header.now text.now out.old }
 {
     *value = 0;
-    let LinkCode::Known(m, p) = link_of(method, parity) else {
+    let Some(link) = link_of(method, parity) else {
         return UNKNOWN_CODE;
     };
-    let FormatCode::Known(s, e) = format_of(shape, end_sign) else {
+    let Some(format) = format_of(shape, end_sign) else {
         return UNKNOWN_CODE;
     };
-    let written = block_written(write_block(m, p, s, e, header, text, &mut *out));
+    let parts = Parts {
+        shape: format.shape,
+        end: format.end,
+        header,
+        text,
+    };
+    let written = block_written(write_block(link, &parts, &mut *out));
     *value = written.value;
     written.number
 }

@@ -3,7 +3,7 @@ ghost use Rattle.std.specs.Prelude.{◌≡◌, [], ◌∷◌};
 ghost use Rattle.corridor.specs.Calls.{called, read_frame_call, write_frame_call};
 
 use crate::UNKNOWN_CODE;
-use codes::{FrameMethodCode, frame_method_of};
+use codes::frame_method_of;
 use frame_answers::{frame_read, frame_written};
 use frame_reader::read_frame;
 use frame_writer::write_frame;
@@ -20,7 +20,7 @@ pub fn corridor_read_frame(
     ensures { called result (value.new ∷ []) out.new ≡ read_frame_call method bits lent.now out.old }
 {
     *value = 0;
-    let FrameMethodCode::Known(m) = frame_method_of(method) else {
+    let Some(m) = frame_method_of(method) else {
         return UNKNOWN_CODE;
     };
     let read = frame_read(read_frame(m, bits, lent, &mut *out));
@@ -33,7 +33,7 @@ pub fn corridor_write_frame(method: u8, content: &[u8], out: &mut [u8], value: &
     ensures { called result (value.new ∷ []) out.new ≡ write_frame_call method content.now out.old }
 {
     *value = 0;
-    let FrameMethodCode::Known(m) = frame_method_of(method) else {
+    let Some(m) = frame_method_of(method) else {
         return UNKNOWN_CODE;
     };
     let written = frame_written(write_frame(m, content, &mut *out));

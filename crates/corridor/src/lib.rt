@@ -8,6 +8,7 @@ ghost use Rattle.std.specs.Prelude.{◌≡◌};
 ghost use Rattle.bits.specs.Bytes.{low_bits, bits_of};
 ghost use Rattle.cyclic.specs.Check.{check_bits, method3, method4, method5, method6};
 
+use cyclic::Cyclic;
 use cyclic3::Cyclic3;
 use cyclic4::Cyclic4;
 use cyclic5::Cyclic5;
@@ -24,6 +25,7 @@ pub use numbers::corridor_receive;
 // The number of a code outside its list.
 pub(crate) const UNKNOWN_CODE: u32 = 1;
 
+// The four checks are calls of their own, since each is exported to C under its own name.
 pub fn corridor_check_3(content: &[u8]) -> u16
     ensures { low_bits 16 result ≡ check_bits method3 (bits_of content.now) }
 {

@@ -4,14 +4,14 @@ use Prim.Native.Nat.{ℕ, zero, suc, ◌+◌, ◌-◌, ◌/◌, ◌%◌, ◌^◌
 use native.Mathlib.Nat.{pow-suc}
 use native.Mathlib.Omega.{arith}
 use mathlib.Core.Bool.{Bool, true}
-use mathlib.Core.List.{List, ◌∷◌, ◌++◌}
+use mathlib.Core.List.{List, [], ◌∷◌, ◌++◌}
 use lib.Dec.{eqb}
 use lib.Pow.{pow_pos}
 use lib.ListN.{length, length-append, length-replicate}
 use Rattle.bits.specs.Strings.{xor_bits, zeros, ones}
 use Rattle.bits.specs.Bytes.{low_bits}
 use Rattle.bits.proofs.Strings.{xor_bits_comm, xor_bits-zeros, zeros-append}
-use Rattle.division.specs.Division.{remainder}
+use Rattle.division.specs.Division.{remainder, constant_term}
 use Rattle.division.specs.Generators.{ibm16}
 use Rattle.division.proofs.Generators.{ccitt16_generator, ibm16_generator, ieee32_generator, receiver_16, receiver_32}
 use Rattle.cyclic.specs.Check.{Parameters, formula, invert_if, check_bits, method3, method4, method5, method6, Constants, Receives}
@@ -63,16 +63,26 @@ method4-formula c =
 
 -- ---- a register that began at the method's start holds its formula
 
-pub check_of_lem : (w : ℕ) (m : Parameters) → OfWidth w m → 0 < w → (c : List Bool) (start after check : ℕ) → low_bits w start ≡ m.start
-    → low_bits w after ≡ enter m.generator (low_bits w start) c → low_bits w check ≡ invert_if m.inverted (low_bits w after)
-    → low_bits w check ≡ check_bits m c
+some_width : (p : List Bool) → constant_term p ≡ true → 0 < length p
+some_width [] h = absurd (cc)
+some_width (x ∷ p) h = omega arith
+
+pub holds_check : (w : ℕ) (m : Parameters) → OfWidth w m → (c start after check : List Bool) → start ≡ m.start → after ≡ enter m.generator start c → check ≡ invert_if m.inverted after
+    → check ≡ check_bits m c
 unfolding check_bits formula
-check_of_lem w m o pos c start after check began entered ended =
+holds_check w m o c start after check began entered ended =
     let wide = o.generator.width in
     ended
     ∙ ap (invert_if m.inverted)
-    (entered ∙ ap (λ r. enter m.generator r c) began ∙ enter_is_formula w m.generator m.start c pos wide o.start-length
+    (entered ∙ ap (λ r. enter m.generator r c) began
+    ∙ enter_is_formula w m.generator m.start c (omega (arith, some_width m.generator o.generator.constant)) wide o.start-length
     ∙ ap (λ n. remainder m.generator (xor_bits (c ++ zeros n) (m.start ++ zeros (length c)))) (sym wide))
+
+-- the same of numbers
+pub check_of_lem : (w : ℕ) (m : Parameters) → OfWidth w m → 0 < w → (c : List Bool) (start after check : ℕ) → low_bits w start ≡ m.start
+    → low_bits w after ≡ enter m.generator (low_bits w start) c → low_bits w check ≡ invert_if m.inverted (low_bits w after)
+    → low_bits w check ≡ check_bits m c
+check_of_lem w m o pos c start after check = holds_check w m o c (low_bits w start) (low_bits w after) (low_bits w check)
 
 -- a new register holds the method's start
 pub began : {m : Parameters} {register width polynomial start limit : ℕ} → Constants m register width polynomial start limit → low_bits width register ≡ m.start

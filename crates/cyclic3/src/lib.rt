@@ -2,11 +2,13 @@
 #![tactic(auto)]
 
 ghost use Rattle.std.specs.Prelude.{◌≡◌};
-ghost use Rattle.bits.specs.Bytes.{low_bits, bits_of};
-ghost use Rattle.cyclic.specs.Check.{method3, invert_if, check_bits, Constants};
-ghost use Rattle.registers.specs.Register.{enter};
+ghost use Rattle.bits.specs.Bytes.{low_bits};
+ghost use Rattle.cyclic.specs.Check.{method3, Constants};
+ghost use Rattle.cyclic.proofs.Methods.{width_3};
 
-use ccitt16::enter_ccitt;
+use ccitt16::Ccitt16;
+use cyclic::Cyclic;
+use folding::Generator;
 
 // The register of the check. Bit 0 of a number is the highest power of x.
 #[derive(Clone, Copy)]
@@ -23,9 +25,22 @@ impl Cyclic3 {
 
     // In bytes.
     pub const LIMIT: usize = 4096;
+}
 
-    // The register before any content.
-    pub fn new() -> Self
+impl Cyclic for Cyclic3 {
+    type Number = u16;
+
+    ghost method = { method3 };
+
+    ghost width = { 16 };
+
+    ghost register_bits = { λ cyclic. low_bits 16 cyclic.register };
+
+    ghost number_bits = { λ number. low_bits 16 number };
+
+    ghost of_width = { width_3 };
+
+    fn new() -> Self
         ensures { Constants method3 result.register Cyclic3.WIDTH Cyclic3.POLYNOMIAL Cyclic3.START Cyclic3.LIMIT }
     {
         Self {
@@ -33,27 +48,14 @@ impl Cyclic3 {
         }
     }
 
-    // The register after a whole slice.
-    pub fn enter(self, content: &[u8]) -> Self
-        ensures { low_bits 16 result.register ≡ enter method3.generator (low_bits 16 self.register) (bits_of content.now) }
-    {
-        let register = self.register;
+    #[tactic(auto, unfolding(cyclic::specs::Check::method3))]
+    fn enter(self, content: &[u8]) -> Self {
         Self {
-            register: enter_ccitt(register, content),
+            register: Ccitt16::enter_content(self.register, content),
         }
     }
 
-    // The check that the register stands for.
-    pub fn check(self) -> u16
-        ensures { low_bits 16 result ≡ invert_if method3.inverted (low_bits 16 self.register) }
-    {
+    fn check(self) -> u16 {
         self.register ^ u16::MAX
-    }
-
-    // The check of a content.
-    pub fn check_of(content: &[u8]) -> u16
-        ensures { low_bits 16 result ≡ check_bits method3 (bits_of content.now) }
-    {
-        Self::new().enter(content).check()
     }
 }

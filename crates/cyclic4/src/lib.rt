@@ -2,11 +2,13 @@
 #![tactic(auto)]
 
 ghost use Rattle.std.specs.Prelude.{◌≡◌};
-ghost use Rattle.bits.specs.Bytes.{low_bits, bits_of};
-ghost use Rattle.cyclic.specs.Check.{method4, invert_if, check_bits, Constants};
-ghost use Rattle.registers.specs.Register.{enter};
+ghost use Rattle.bits.specs.Bytes.{low_bits};
+ghost use Rattle.cyclic.specs.Check.{method4, Constants};
+ghost use Rattle.cyclic.proofs.Methods.{width_4};
 
-use ibm16::enter_ibm;
+use cyclic::Cyclic;
+use folding::Generator;
+use ibm16::Ibm16;
 
 // The register of the check. Bit 0 of a number is the highest power of x.
 #[derive(Clone, Copy)]
@@ -23,9 +25,22 @@ impl Cyclic4 {
 
     // In bytes.
     pub const LIMIT: usize = 4096;
+}
 
-    // The register before any content.
-    pub fn new() -> Self
+impl Cyclic for Cyclic4 {
+    type Number = u16;
+
+    ghost method = { method4 };
+
+    ghost width = { 16 };
+
+    ghost register_bits = { λ cyclic. low_bits 16 cyclic.register };
+
+    ghost number_bits = { λ number. low_bits 16 number };
+
+    ghost of_width = { width_4 };
+
+    fn new() -> Self
         ensures { Constants method4 result.register Cyclic4.WIDTH Cyclic4.POLYNOMIAL Cyclic4.START Cyclic4.LIMIT }
     {
         Self {
@@ -33,27 +48,15 @@ impl Cyclic4 {
         }
     }
 
-    // The register after a whole slice.
-    pub fn enter(self, content: &[u8]) -> Self
-        ensures { low_bits 16 result.register ≡ enter method4.generator (low_bits 16 self.register) (bits_of content.now) }
-    {
-        let register = self.register;
+    #[tactic(auto, unfolding(cyclic::specs::Check::method4))]
+    fn enter(self, content: &[u8]) -> Self {
         Self {
-            register: enter_ibm(register, content),
+            register: Ibm16::enter_content(self.register, content),
         }
     }
 
-    // The check that the register stands for.
-    pub fn check(self) -> u16
-        ensures { low_bits 16 result ≡ invert_if method4.inverted (low_bits 16 self.register) }
-    {
+    #[tactic(auto, unfolding(cyclic::specs::Check::method4))]
+    fn check(self) -> u16 {
         self.register
-    }
-
-    // The check of a content.
-    pub fn check_of(content: &[u8]) -> u16
-        ensures { low_bits 16 result ≡ check_bits method4 (bits_of content.now) }
-    {
-        Self::new().enter(content).check()
     }
 }

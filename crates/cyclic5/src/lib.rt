@@ -2,11 +2,13 @@
 #![tactic(auto)]
 
 ghost use Rattle.std.specs.Prelude.{◌≡◌};
-ghost use Rattle.bits.specs.Bytes.{low_bits, bits_of};
-ghost use Rattle.cyclic.specs.Check.{method5, invert_if, check_bits, Constants, Receives};
-ghost use Rattle.registers.specs.Register.{enter};
+ghost use Rattle.bits.specs.Bytes.{low_bits};
+ghost use Rattle.cyclic.specs.Check.{method5, Constants, Receives};
+ghost use Rattle.cyclic.proofs.Methods.{width_5};
 
-use ccitt16::enter_ccitt;
+use ccitt16::Ccitt16;
+use cyclic::Cyclic;
+use folding::Generator;
 
 // The register of the check. Bit 0 of a number is the highest power of x.
 #[derive(Clone, Copy)]
@@ -26,9 +28,22 @@ impl Cyclic5 {
 
     // What content and check leave a receiver where the check is right (003 appendix 1).
     pub const RESIDUE: u16 = 0xf0b8;
+}
 
-    // The register before any content.
-    pub fn new() -> Self
+impl Cyclic for Cyclic5 {
+    type Number = u16;
+
+    ghost method = { method5 };
+
+    ghost width = { 16 };
+
+    ghost register_bits = { λ cyclic. low_bits 16 cyclic.register };
+
+    ghost number_bits = { λ number. low_bits 16 number };
+
+    ghost of_width = { width_5 };
+
+    fn new() -> Self
         ensures constants { Constants method5 result.register Cyclic5.WIDTH Cyclic5.POLYNOMIAL Cyclic5.START Cyclic5.LIMIT }
         ensures residue { Receives method5 16 (low_bits 16 Cyclic5.RESIDUE) }
     {
@@ -37,27 +52,14 @@ impl Cyclic5 {
         }
     }
 
-    // The register after a whole slice.
-    pub fn enter(self, content: &[u8]) -> Self
-        ensures { low_bits 16 result.register ≡ enter method5.generator (low_bits 16 self.register) (bits_of content.now) }
-    {
-        let register = self.register;
+    #[tactic(auto, unfolding(cyclic::specs::Check::method5))]
+    fn enter(self, content: &[u8]) -> Self {
         Self {
-            register: enter_ccitt(register, content),
+            register: Ccitt16::enter_content(self.register, content),
         }
     }
 
-    // The check that the register stands for.
-    pub fn check(self) -> u16
-        ensures { low_bits 16 result ≡ invert_if method5.inverted (low_bits 16 self.register) }
-    {
+    fn check(self) -> u16 {
         self.register ^ u16::MAX
-    }
-
-    // The check of a content.
-    pub fn check_of(content: &[u8]) -> u16
-        ensures { low_bits 16 result ≡ check_bits method5 (bits_of content.now) }
-    {
-        Self::new().enter(content).check()
     }
 }

@@ -2,11 +2,13 @@
 #![tactic(auto)]
 
 ghost use Rattle.std.specs.Prelude.{◌≡◌};
-ghost use Rattle.bits.specs.Bytes.{low_bits, bits_of};
-ghost use Rattle.cyclic.specs.Check.{method6, invert_if, check_bits, Constants, Receives};
-ghost use Rattle.registers.specs.Register.{enter};
+ghost use Rattle.bits.specs.Bytes.{low_bits};
+ghost use Rattle.cyclic.specs.Check.{method6, Constants, Receives};
+ghost use Rattle.cyclic.proofs.Methods.{width_6};
 
-use ieee32::enter_ieee;
+use cyclic::Cyclic;
+use folding::Generator;
+use ieee32::Ieee32;
 
 // The register of the check. Bit 0 of a number is the highest power of x.
 #[derive(Clone, Copy)]
@@ -26,9 +28,22 @@ impl Cyclic6 {
 
     // What content and check leave a receiver where the check is right: worked out by the formula of 003 appendix 2, which misprints it.
     pub const RESIDUE: u32 = 0xdebb20e3;
+}
 
-    // The register before any content.
-    pub fn new() -> Self
+impl Cyclic for Cyclic6 {
+    type Number = u32;
+
+    ghost method = { method6 };
+
+    ghost width = { 32 };
+
+    ghost register_bits = { λ cyclic. low_bits 32 cyclic.register };
+
+    ghost number_bits = { λ number. low_bits 32 number };
+
+    ghost of_width = { width_6 };
+
+    fn new() -> Self
         ensures constants { Constants method6 result.register Cyclic6.WIDTH Cyclic6.POLYNOMIAL Cyclic6.START Cyclic6.LIMIT }
         ensures residue { Receives method6 32 (low_bits 32 Cyclic6.RESIDUE) }
     {
@@ -37,27 +52,14 @@ impl Cyclic6 {
         }
     }
 
-    // The register after a whole slice.
-    pub fn enter(self, content: &[u8]) -> Self
-        ensures { low_bits 32 result.register ≡ enter method6.generator (low_bits 32 self.register) (bits_of content.now) }
-    {
-        let register = self.register;
+    #[tactic(auto, unfolding(cyclic::specs::Check::method6))]
+    fn enter(self, content: &[u8]) -> Self {
         Self {
-            register: enter_ieee(register, content),
+            register: Ieee32::enter_content(self.register, content),
         }
     }
 
-    // The check that the register stands for.
-    pub fn check(self) -> u32
-        ensures { low_bits 32 result ≡ invert_if method6.inverted (low_bits 32 self.register) }
-    {
+    fn check(self) -> u32 {
         self.register ^ u32::MAX
-    }
-
-    // The check of a content.
-    pub fn check_of(content: &[u8]) -> u32
-        ensures { low_bits 32 result ≡ check_bits method6 (bits_of content.now) }
-    {
-        Self::new().enter(content).check()
     }
 }

@@ -4,4 +4,5 @@ pub mod Turn
 pub mod WordLaws
 pub mod Rows
 pub mod Multiples
-pub mod Folding
+pub mod Contents
+pub mod Steps

@@ -2,3 +2,4 @@ pub mod Stuffing
 pub mod OneToOne
 pub mod Words
 pub mod Told
+pub mod Sizes

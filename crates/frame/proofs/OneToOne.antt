@@ -3,14 +3,11 @@ use mathlib.Core.Path.{◌≡◌, refl, sym, ap, ◌∙◌}
 use Prim.Native.Nat.{ℕ}
 use mathlib.Core.Bool.{cond}
 use lib.Dec.{eqb}
+use Rattle.std.specs.Prelude.{Result, Ok, Err}
 use Rattle.frame.specs.declared.WriteRefusal.{WriteRefusal}
 use Rattle.frame.specs.declared.WriteRefusal.TheVariants as writing
-use Rattle.frame.specs.declared.FrameWritten.{FrameWritten}
-use Rattle.frame.specs.declared.FrameWritten.TheVariants as written
 use Rattle.frame.specs.declared.ReadRefusal.{ReadRefusal}
 use Rattle.frame.specs.declared.ReadRefusal.TheVariants as reading
-use Rattle.frame.specs.declared.FrameRead.{FrameRead}
-use Rattle.frame.specs.declared.FrameRead.TheVariants as read
 use Rattle.frame.specs.Answers.{Numbers, frame, content, refused, write_number, write_value, of_written, read_number, read_value, of_read}
 
 -- ---- writing
@@ -24,17 +21,17 @@ write_refusal_back writing.NoContent = refl
 write_refusal_back writing.TooLong = refl
 write_refusal_back (writing.OutputShort needed) = refl
 
-written_from : Numbers → FrameWritten
-written_from (frame bits) = written.Written bits
-written_from (content bytes) = written.Written bytes
-written_from (refused n v) = written.Refused (write_refusal_from n v)
+written_from : Numbers → Result ℕ WriteRefusal
+written_from (frame bits) = Ok bits
+written_from (content bytes) = Ok bytes
+written_from (refused n v) = Err (write_refusal_from n v)
 
-written_back : (w : FrameWritten) → written_from (of_written w) ≡ w
+written_back : (w : Result ℕ WriteRefusal) → written_from (of_written w) ≡ w
 unfolding written_from
-written_back (written.Written bits) = refl
-written_back (written.Refused r) = ap written.Refused (write_refusal_back r)
+written_back (Ok bits) = refl
+written_back (Err r) = ap Err (write_refusal_back r)
 
-pub of_written_injective : (v w : FrameWritten) → of_written v ≡ of_written w → v ≡ w
+pub of_written_injective : (v w : Result ℕ WriteRefusal) → of_written v ≡ of_written w → v ≡ w
 of_written_injective v w e = sym (written_back v) ∙ ap written_from e ∙ written_back w
 
 -- ---- reading
@@ -60,15 +57,15 @@ read_refusal_back reading.TooLong = refl
 read_refusal_back reading.WrongCheck = refl
 read_refusal_back (reading.OutputShort needed) = refl
 
-read_from : Numbers → FrameRead
-read_from (frame bits) = read.Taken bits
-read_from (content bytes) = read.Taken bytes
-read_from (refused n v) = read.Refused (read_refusal_from n v)
+read_from : Numbers → Result ℕ ReadRefusal
+read_from (frame bits) = Ok bits
+read_from (content bytes) = Ok bytes
+read_from (refused n v) = Err (read_refusal_from n v)
 
-read_back : (r : FrameRead) → read_from (of_read r) ≡ r
+read_back : (r : Result ℕ ReadRefusal) → read_from (of_read r) ≡ r
 unfolding read_from
-read_back (read.Taken bytes) = refl
-read_back (read.Refused r) = ap read.Refused (read_refusal_back r)
+read_back (Ok bytes) = refl
+read_back (Err r) = ap Err (read_refusal_back r)
 
-pub of_read_injective : (r s : FrameRead) → of_read r ≡ of_read s → r ≡ s
+pub of_read_injective : (r s : Result ℕ ReadRefusal) → of_read r ≡ of_read s → r ≡ s
 of_read_injective r s e = sym (read_back r) ∙ ap read_from e ∙ read_back s

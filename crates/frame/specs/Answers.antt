@@ -1,16 +1,12 @@
 -- Document 01's numbers and values for each case of the answers. Assumes nothing.
-use Rattle.std.specs.Prelude.{ℕ, List, length}
+use Rattle.std.specs.Prelude.{ℕ, List, length, Result, Ok, Err}
 use Rattle.bits.specs.Bytes.{bytes_for}
 use Rattle.bits.specs.Calls.{Call, called}
 use Rattle.frame.specs.declared.FrameMethod.{FrameMethod}
 use Rattle.frame.specs.declared.WriteRefusal.{WriteRefusal}
 use Rattle.frame.specs.declared.WriteRefusal.TheVariants as writing
-use Rattle.frame.specs.declared.FrameWritten.{FrameWritten}
-use Rattle.frame.specs.declared.FrameWritten.TheVariants as written
 use Rattle.frame.specs.declared.ReadRefusal.{ReadRefusal}
 use Rattle.frame.specs.declared.ReadRefusal.TheVariants as reading
-use Rattle.frame.specs.declared.FrameRead.{FrameRead}
-use Rattle.frame.specs.declared.FrameRead.TheVariants as read
 use Rattle.frame.specs.Frame.{parameters_of}
 use Rattle.frame.specs.Write as writes
 use Rattle.frame.specs.Read as reads
@@ -32,9 +28,10 @@ write_value writing.NoContent = 0
 write_value writing.TooLong = 0
 write_value (writing.OutputShort needed) = needed
 
-abbrev pub of_written : FrameWritten → Numbers
-of_written (written.Written bits) = frame bits
-of_written (written.Refused r) = refused (write_number r) (write_value r)
+-- of the bits written
+abbrev pub of_written : Result ℕ WriteRefusal → Numbers
+of_written (Ok bits) = frame bits
+of_written (Err r) = refused (write_number r) (write_value r)
 
 abbrev pub read_number : ReadRefusal → ℕ
 read_number reading.BitsNotLent = 31
@@ -56,9 +53,10 @@ read_value reading.TooLong = 0
 read_value reading.WrongCheck = 0
 read_value (reading.OutputShort needed) = needed
 
-abbrev pub of_read : FrameRead → Numbers
-of_read (read.Taken bytes) = content bytes
-of_read (read.Refused r) = refused (read_number r) (read_value r)
+-- of the bytes read
+abbrev pub of_read : Result ℕ ReadRefusal → Numbers
+of_read (Ok bytes) = content bytes
+of_read (Err r) = refused (read_number r) (read_value r)
 
 -- the rules' answers in the same numbers
 abbrev pub of_write_answer : writes.WriteAnswer → Numbers

@@ -3,17 +3,18 @@
 #![tactic(auto)]
 
 // Methods 5 and 6: the checks of 16 and of 32 bits.
-#[derive(Clone, Copy)]
+#[derive(Clone, Copy, Debug, PartialEq, Eq)]
 pub enum FrameMethod {
     Cyclic16,
     Cyclic32,
 }
 
 // A place in a frame, in bits from 0.
-#[derive(Clone, Copy)]
+#[derive(Clone, Copy, Debug, PartialEq, Eq)]
 pub struct BitPlace(pub usize);
 
-#[derive(Clone, Copy)]
+// Why a frame is not written.
+#[derive(Clone, Copy, Debug, PartialEq, Eq)]
 pub enum WriteRefusal {
     // 21
     NoContent,
@@ -23,14 +24,8 @@ pub enum WriteRefusal {
     OutputShort(usize),
 }
 
-#[derive(Clone, Copy)]
-pub enum FrameWritten {
-    // The number of bits.
-    Written(usize),
-    Refused(WriteRefusal),
-}
-
-#[derive(Clone, Copy)]
+// Why a frame is not read.
+#[derive(Clone, Copy, Debug, PartialEq, Eq)]
 pub enum ReadRefusal {
     // 31: more bits told than lent
     BitsNotLent,
@@ -48,13 +43,6 @@ pub enum ReadRefusal {
     WrongCheck,
     // 38: the bytes needed
     OutputShort(usize),
-}
-
-#[derive(Clone, Copy)]
-pub enum FrameRead {
-    // The bytes of the content.
-    Taken(usize),
-    Refused(ReadRefusal),
 }
 
 mod numbers;

@@ -8,7 +8,7 @@ use cyclic6::Cyclic6;
 
 pub const FLAG: u8 = 0x7E;
 
-// The bytes of content at most.
+// The bytes of content at most. This and the width below each name one constant of the method's type, so they are two.
 pub fn limit(m: FrameMethod) -> usize
     ensures { result ≡ (parameters_of m).limit }
 {

@@ -1,5 +1,6 @@
 // The answers of the frame calls in document 01's numbers: 0 for success or the number of the refusal, and the value that goes with
-// it. Every answer has its numbers, by the rules of crate answers.
+// it. Every answer has its numbers, by the rules of crate answers. The answers' types stand in crate `frame` and those of the numbers in
+// `answers`, so each conversion is a function here and no `From`.
 #![tactic(auto)]
 
 ghost use Rattle.std.specs.Prelude.{◌≡◌};
@@ -7,7 +8,7 @@ ghost use Rattle.frame.specs.Answers.{read_number, read_value, write_number, wri
 ghost use Rattle.answers.specs.Numbers.{value_numbers, frame_numbers};
 
 use answers::{ValueNumbers, numbers};
-use frame::{FrameRead, FrameWritten, ReadRefusal, WriteRefusal};
+use frame::{ReadRefusal, WriteRefusal};
 
 fn read_refusal(refusal: ReadRefusal) -> ValueNumbers
     ensures { result ≡ value_numbers (read_number refusal) (read_value refusal) }
@@ -24,12 +25,12 @@ fn read_refusal(refusal: ReadRefusal) -> ValueNumbers
     }
 }
 
-pub fn frame_read(read: FrameRead) -> ValueNumbers
+pub fn frame_read(read: Result<usize, ReadRefusal>) -> ValueNumbers
     ensures { result ≡ frame_numbers (of_read read) }
 {
     match read {
-        FrameRead::Taken(bytes) => numbers(0, bytes),
-        FrameRead::Refused(refusal) => read_refusal(refusal),
+        Ok(bytes) => numbers(0, bytes),
+        Err(refusal) => read_refusal(refusal),
     }
 }
 
@@ -43,11 +44,11 @@ fn write_refusal(refusal: WriteRefusal) -> ValueNumbers
     }
 }
 
-pub fn frame_written(written: FrameWritten) -> ValueNumbers
+pub fn frame_written(written: Result<usize, WriteRefusal>) -> ValueNumbers
     ensures { result ≡ frame_numbers (of_written written) }
 {
     match written {
-        FrameWritten::Written(bits) => numbers(0, bits),
-        FrameWritten::Refused(refusal) => write_refusal(refusal),
+        Ok(bits) => numbers(0, bits),
+        Err(refusal) => write_refusal(refusal),
     }
 }

@@ -1,12 +1,12 @@
 -- The framing of a frame as the reader finds it: questions 31 to 36, and question 37 put beforehand. Assumes nothing.
-use Rattle.std.specs.Prelude.{ℕ, ◌-◌, ◌*◌, Bool, cond, List, leb, length, take}
+use Rattle.std.specs.Prelude.{ℕ, ◌-◌, ◌*◌, Bool, cond, List, leb, length, take, Result, Ok, Err}
 use Rattle.bits.specs.Strings.{same}
 use Rattle.bits.specs.Bytes.{bits_of}
 use Rattle.cyclic.specs.Check.{Parameters, check_bits}
 use Rattle.frame.specs.Read as rule
 use Rattle.frame.specs.Answers.{read_number, read_value}
-use Rattle.frame_framing.specs.declared.FramingEnd.{FramingEnd}
-use Rattle.frame_framing.specs.declared.FramingEnd.TheVariants as code
+use Rattle.frame.specs.declared.ReadRefusal.{ReadRefusal}
+use Rattle.frame_framing.specs.declared.Body.{Body}
 
 -- the place of the closing flag, the number of bits of content and check, and whether the check is right; or number and value of a
 -- refusal
@@ -14,9 +14,9 @@ pub data FramingAnswer : Type 0 where
   found : ℕ → ℕ → Bool → FramingAnswer
   unframed : ℕ → ℕ → FramingAnswer
 
-abbrev pub of_framing : FramingEnd → FramingAnswer
-of_framing (code.Found b) = found b.end b.count b.right
-of_framing (code.Refused r) = unframed (read_number r) (read_value r)
+abbrev pub of_framing : Result Body ReadRefusal → FramingAnswer
+of_framing (Ok b) = found b.end b.count b.right
+of_framing (Err r) = unframed (read_number r) (read_value r)
 
 -- 32 to 36
 abbrev pub answer_of : Parameters → ℕ → rule.Framed → FramingAnswer

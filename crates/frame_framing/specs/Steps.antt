@@ -1,12 +1,13 @@
 -- What the steps of the framing compute. The rules do not rest on these definitions. Assumes nothing.
-use Rattle.std.specs.Prelude.{◌≡◌, ℕ, ◌^◌, ◌<◌, Bool, List, length}
+use Rattle.std.specs.Prelude.{◌≡◌, ℕ, ◌^◌, ◌<◌, Bool, List, length, Result}
 use Rattle.bits.specs.Bytes.{low_bits, value}
 use Rattle.cyclic.specs.Check.{Parameters, formula, Receives}
 use Rattle.frame.specs.Frame.{width}
 use Rattle.frame.specs.Read.{ask_length}
 use Rattle.frame_walk.specs.declared.Walk.{Walk}
 use Rattle.frame_walk.specs.Walk.{whole_bytes}
-use Rattle.frame_framing.specs.declared.FramingEnd.{FramingEnd}
+use Rattle.frame.specs.declared.ReadRefusal.{ReadRefusal}
+use Rattle.frame_framing.specs.declared.Body.{Body}
 use Rattle.frame_framing.specs.Framing.{of_framing, answer_of}
 
 -- a number that content and check leave exactly where the check is the rule's
@@ -17,6 +18,6 @@ pub record Leaves (m : Parameters) (fixed : ℕ) : Type 0 where
   pub small : fixed < 2 ^ wide
 
 -- the answer to 34 to 36, where the walk passed the bits s
-abbrev pub Asked : Parameters → Walk → FramingEnd → Type 0
+abbrev pub Asked : Parameters → Walk → Result Body ReadRefusal → Type 0
 Asked m w r =
     (s : List Bool) → w.count ≡ length s → w.register ≡ value (formula m (whole_bytes s)) → of_framing r ≡ answer_of m w.end (ask_length m s)

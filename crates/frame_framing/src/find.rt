@@ -4,11 +4,11 @@ ghost use Rattle.frame.specs.Frame.{parameters_of};
 ghost use Rattle.frame_framing.specs.Framing.{of_framing, framing_answer};
 ghost use Rattle.frame_framing.specs.Steps.{Leaves, Asked};
 
-use crate::{Body, FramingEnd};
+use crate::Body;
 use cyclic5::Cyclic5;
 use cyclic6::Cyclic6;
 use frame::{FrameMethod, ReadRefusal, check_width, limit};
-use frame_walk::{Walk, WalkEnd, walk_frame};
+use frame_walk::{Walk, walk_frame};
 
 // What content and check leave in the register where the check is right (003 par. 2.2.3).
 fn residue(m: FrameMethod) -> u32
@@ -21,20 +21,20 @@ fn residue(m: FrameMethod) -> u32
 }
 
 // Questions 34 to 36, and whether the check is right.
-fn ask_length(m: FrameMethod, w: Walk) -> FramingEnd
+fn ask_length(m: FrameMethod, w: Walk) -> Result<Body, ReadRefusal>
     ensures { Asked (parameters_of m) w result }
 {
     let width = check_width(m);
     if w.count % 8 != 0 {
-        return FramingEnd::Refused(ReadRefusal::PartOfByte);
+        return Err(ReadRefusal::PartOfByte);
     }
     if w.count < 8 + width {
-        return FramingEnd::Refused(ReadRefusal::NoContent);
+        return Err(ReadRefusal::NoContent);
     }
     if w.count > 8 * limit(m) + width {
-        return FramingEnd::Refused(ReadRefusal::TooLong);
+        return Err(ReadRefusal::TooLong);
     }
-    FramingEnd::Found(Body {
+    Ok(Body {
         end: w.end,
         count: w.count,
         right: w.register == residue(m),
@@ -42,11 +42,9 @@ fn ask_length(m: FrameMethod, w: Walk) -> FramingEnd
 }
 
 // The framing of the first `told` bits of the bytes lent.
-pub fn find_framing(m: FrameMethod, told: usize, lent: &[u8]) -> FramingEnd
+pub fn find_framing(m: FrameMethod, told: usize, lent: &[u8]) -> Result<Body, ReadRefusal>
     ensures { of_framing result ≡ framing_answer (parameters_of m) told lent.now }
 {
-    match walk_frame(m, told, lent) {
-        WalkEnd::Closed(w) => ask_length(m, w),
-        WalkEnd::Refused(r) => FramingEnd::Refused(r),
-    }
+    let walked = walk_frame(m, told, lent)?;
+    ask_length(m, walked)
 }

@@ -2,21 +2,12 @@
 // input.
 #![tactic(auto)]
 
-use frame::ReadRefusal;
-
 // The place of the closing flag, how many bits content and check have, and whether the check is right.
-#[derive(Clone, Copy)]
+#[derive(Clone, Copy, Debug)]
 pub struct Body {
     pub end: usize,
     pub count: usize,
     pub right: bool,
-}
-
-// A framing, or why there is none.
-#[derive(Clone, Copy)]
-pub enum FramingEnd {
-    Found(Body),
-    Refused(ReadRefusal),
 }
 
 mod find;

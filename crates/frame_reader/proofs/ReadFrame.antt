@@ -8,6 +8,7 @@ use borrow.Author.Tests.{eqb-true, leb-true, le-leb, lt-leb}
 use lib.Dec.{eqb, leb}
 use lib.ListN.{length, take, drop}
 use lib.Seq.{sets, sets-eq, length-take-le}
+use Rattle.std.specs.Prelude.{Result, Ok, Err}
 use Rattle.bits.specs.Strings.{same}
 use Rattle.bits.specs.Bytes.{bits_of, bytes_for, pack_into, pack}
 use Rattle.bits.specs.Calls.{called}
@@ -25,10 +26,8 @@ use Rattle.frame.specs.Answers.{content, refused, read_number, read_value, after
 use Rattle.frame.proofs.Told.{told_length, between_told}
 use Rattle.zero_removal.specs.Reader.{data_of}
 use Rattle.frame_framing.specs.declared.Body.{Body}
-use Rattle.frame_framing.specs.declared.FramingEnd.{FramingEnd}
-use Rattle.frame_framing.specs.declared.FramingEnd.TheVariants as code
 use Rattle.frame_framing.specs.Framing.{found, unframed, of_framing, answer_of, framing_answer}
-use Rattle.frame_framing.proofs.Sizes.{sizes}
+use Rattle.frame.proofs.Sizes.{sizes}
 use Rattle.frame_reader.specs.Steps.{data_between}
 
 -- ---- a framing that was found
@@ -91,8 +90,8 @@ framed_found method lent told within (rule.found s) q {end} {count} {right} e =
       asked = r ∙ ap (λ t. same (check_in m t) (check_bits m (content_of m t))) is;
     }
 
-module _ (method : FrameMethod) (lent : List ℕ) (told : ℕ) {w : FramingEnd} (framing : of_framing w ≡ framing_answer (parameters_of method) told lent) where
-  pub framing_found : {f : Body} → w ≡ code.Found f → FramingFound method lent told f.end f.count f.right
+module _ (method : FrameMethod) (lent : List ℕ) (told : ℕ) {w : Result Body ReadRefusal} (framing : of_framing w ≡ framing_answer (parameters_of method) told lent) where
+  pub framing_found : {f : Body} → w ≡ Ok f → FramingFound method lent told f.end f.count f.right
   unfolding framing_answer
   framing_found {f} e = go (leb told (8 * length lent)) refl (sym (ap of_framing e) ∙ framing)
     where
@@ -103,7 +102,7 @@ module _ (method : FrameMethod) (lent : List ℕ) (told : ℕ) {w : FramingEnd} 
       go true p q = framed_found method lent told (leb-true told (8 * length lent) p) _ refl q
       go false p q = absurd (let z : ◌≡◌ {A = ℕ} 0 1 = cc in omega arith)
 
-  pub no_framing : (room : ℕ) {r : ReadRefusal} → w ≡ code.Refused r → read_frame (parameters_of method) told lent room ≡ refusal (read_number r) (read_value r)
+  pub no_framing : (room : ℕ) {r : ReadRefusal} → w ≡ Err r → read_frame (parameters_of method) told lent room ≡ refusal (read_number r) (read_value r)
   unfolding read_frame read_bits framing_answer
   no_framing room {r} e = go (leb told (8 * length lent)) (framed (parameters_of method) (take told (bits_of lent))) (sym (ap of_framing e) ∙ framing)
     where

@@ -6,6 +6,7 @@ use native.Mathlib.Omega.{arith}
 use mathlib.Core.Bool.{Bool, true, false, cond}
 use mathlib.Core.List.{List, ◌++◌}
 use lib.Dec.{leb}
+use Rattle.std.specs.Prelude.{Result, Ok, Err}
 use lib.ListN.{length, take, drop, length-append}
 use lib.Seq.{take_at}
 use Rattle.bits.specs.Strings.{same}
@@ -15,11 +16,7 @@ use Rattle.bits.proofs.Packing.{length-pack, pack-bits_of}
 use Rattle.cyclic.specs.Check.{Parameters, check_bits}
 use Rattle.frame.specs.declared.FrameMethod.{FrameMethod}
 use Rattle.frame.specs.declared.FrameMethod.TheVariants.{Cyclic16, Cyclic32}
-use Rattle.frame.specs.declared.FrameWritten.{FrameWritten}
-use Rattle.frame.specs.declared.FrameWritten.TheVariants as writes
 use Rattle.frame.specs.declared.WriteRefusal.{WriteRefusal}
-use Rattle.frame.specs.declared.FrameRead.{FrameRead}
-use Rattle.frame.specs.declared.FrameRead.TheVariants as reads
 use Rattle.frame.specs.declared.ReadRefusal.{ReadRefusal}
 use Rattle.frame.specs.Frame.{parameters_of}
 use Rattle.frame.specs.Read.{Framed, found, unframed, framed, check_in, content_of, ReadAnswer, taken, refusal, ask_check, read_bits, read_frame, read_output}
@@ -27,11 +24,11 @@ use Rattle.frame.specs.Write as writing
 use Rattle.frame.specs.Answers.{of_read, of_read_answer, after_reading, read_call, write_number, write_value, of_written, of_write_answer, after_writing, write_call}
 use Rattle.guarantees.specs.Second.{FrameReadsBack}
 use Rattle.guarantees.proofs.Second.{second_property}
-use Rattle.frame_roundtrip.specs.declared.FrameReturn.{FrameReturn}
-use Rattle.frame_roundtrip.specs.declared.FrameReturn.TheVariants.{NotWritten, NotRead, Equal, Different}
+use Rattle.roundtrip.specs.declared.RoundTripError.{RoundTripError}
+use Rattle.roundtrip.specs.declared.RoundTripError.TheVariants.{NotWritten, NotRead}
 use Rattle.roundtrip.specs.Returns.{Returned, refused, returned}
 use Rattle.frame_roundtrip.specs.Returns.{frame_back, frame_answer, frame_output, frame_trip, frame_returns, ContentOf, of_frame_return}
-use Rattle.roundtrip.proofs.Compared.{joined}
+use Rattle.roundtrip.proofs.Comparing.{joined}
 
 -- ---- what the output's length changes
 
@@ -79,18 +76,18 @@ module _ (m : FrameMethod) (content frame out : List ℕ) where
   back = frame_back content (length out)
 
   -- what write_frame ensures
-  abbrev Writes : FrameWritten → List ℕ → Type 0
+  abbrev Writes : Result ℕ WriteRefusal → List ℕ → Type 0
   Writes w frame₁ = called (of_written w) frame₁ ≡ write_call m content frame
 
   -- what the function ensures
-  abbrev Returns : FrameReturn → List ℕ → List ℕ → Type 0
+  abbrev Returns : Result Bool (RoundTripError WriteRefusal ReadRefusal) → List ℕ → List ℕ → Type 0
   Returns r frame₁ out₁ = returned (of_frame_return r) frame₁ out₁ ≡ frame_returns (parameters_of m) content frame out
 
-  pub not_written : (w : FrameWritten) {frame₁ : List ℕ} → Writes w frame₁ → {r : WriteRefusal} → w ≡ writes.Refused r → Returns (NotWritten r) frame₁ out
+  pub not_written : (w : Result ℕ WriteRefusal) {frame₁ : List ℕ} → Writes w frame₁ → {r : WriteRefusal} → w ≡ Err r → Returns (Err (NotWritten r)) frame₁ out
   not_written w {frame₁ = frame₁} h {r} q = go rule (ap (λ z. called (of_written z) frame₁) (sym q) ∙ h)
     where
-      go : (a : writing.WriteAnswer) → called (of_written (writes.Refused r)) frame₁ ≡ after_writing a frame
-          → returned (of_frame_return (NotWritten r)) frame₁ out ≡ frame_trip a back frame out
+      go : (a : writing.WriteAnswer) → called (of_written (Err r)) frame₁ ≡ after_writing a frame
+          → returned (of_frame_return (Err (NotWritten r))) frame₁ out ≡ frame_trip a back frame out
       go (writing.refusal n v) g =
           let f = ap (λ c. c.answer) g in
           let i : write_number r ≡ n = cc in
@@ -107,16 +104,16 @@ module _ (m : FrameMethod) (content frame out : List ℕ) where
     pub size : n ≡ length bits
     pub bytes : frame₁ ≡ pack bits ++ drop (bytes_for (length bits)) frame
 
-  pub written_frame : (w : FrameWritten) {frame₁ : List ℕ} → Writes w frame₁ → {n : ℕ} → w ≡ writes.Written n → WrittenFrame n frame₁
+  pub written_frame : (w : Result ℕ WriteRefusal) {frame₁ : List ℕ} → Writes w frame₁ → {n : ℕ} → w ≡ Ok n → WrittenFrame n frame₁
   unfolding writing.write_output
   written_frame w {frame₁ = frame₁} h {n} q = go rule refl (sym (ap of_written q) ∙ ap (λ c. c.answer) h) (ap (λ c. c.output) h)
     where
-      go : (a : writing.WriteAnswer) → rule ≡ a → of_written (writes.Written n) ≡ of_write_answer a → frame₁ ≡ writing.write_output a frame → WrittenFrame n frame₁
+      go : (a : writing.WriteAnswer) → rule ≡ a → of_written (Ok n) ≡ of_write_answer a → frame₁ ≡ writing.write_output a frame → WrittenFrame n frame₁
       go (writing.refusal k v) r g o = let z : ◌≡◌ {A = ℕ} 0 1 = cc in absurd (omega arith)
       go (writing.written l) r g o = record { bits = l; by_rule = r; size = cc; bytes = o }
 
   -- what read_frame ensures of n bits of these bytes
-  abbrev Reads : ℕ → List ℕ → FrameRead → List ℕ → Type 0
+  abbrev Reads : ℕ → List ℕ → Result ℕ ReadRefusal → List ℕ → Type 0
   Reads n l r out₁ = called (of_read r) out₁ ≡ read_call m n l out
 
   pub record TakenBack (bytes : ℕ) (out₁ : List ℕ) : Type 0 where
@@ -124,7 +121,7 @@ module _ (m : FrameMethod) (content frame out : List ℕ) where
     pub room : length content ≤ length out₁
     pub equal : ContentOf content bytes out₁
 
-  module _ (cb : Bytes content) {n : ℕ} {frame₁ : List ℕ} (w : WrittenFrame n frame₁) (r : FrameRead) {out₁ : List ℕ} (h : Reads n frame₁ r out₁) where
+  module _ (cb : Bytes content) {n : ℕ} {frame₁ : List ℕ} (w : WrittenFrame n frame₁) (r : Result ℕ ReadRefusal) {out₁ : List ℕ} (h : Reads n frame₁ r out₁) where
     abbrev answered : Bool → ReadAnswer
     answered fits = cond fits (taken (bits_of content)) (refusal 38 (length content))
 
@@ -146,11 +143,11 @@ module _ (m : FrameMethod) (content frame out : List ℕ) where
         joined (a ∙ ap (λ z. frame_answer z back) (sym w.by_rule)) l
         (ap (λ c. c.output) back_is ∙ ap (λ z. frame_output z back out) (sym w.by_rule))
 
-    pub taken_back : {bytes : ℕ} → r ≡ reads.Taken bytes → TakenBack bytes out₁
+    pub taken_back : {bytes : ℕ} → r ≡ Ok bytes → TakenBack bytes out₁
     unfolding read_output
     taken_back {bytes} q = go (leb (length content) (length out)) refl (sym (ap of_read q) ∙ ap (λ c. c.answer) back_is) (ap (λ c. c.output) back_is)
       where
-        go : (fits : Bool) → leb (length content) (length out) ≡ fits → of_read (reads.Taken bytes) ≡ of_read_answer (answered fits)
+        go : (fits : Bool) → leb (length content) (length out) ≡ fits → of_read (Ok bytes) ≡ of_read_answer (answered fits)
             → out₁ ≡ read_output (answered fits) out → TakenBack bytes out₁
         go false t g o = let z : ◌≡◌ {A = ℕ} 0 1 = cc in absurd (omega arith)
         go true t g o =
@@ -166,18 +163,17 @@ module _ (m : FrameMethod) (content frame out : List ℕ) where
                   };
             }
 
-    pub taken_returns : {bytes : ℕ} → r ≡ reads.Taken bytes → {equal : Bool} → (ContentOf content bytes out₁ → equal ≡ true) → {answer : FrameReturn}
-        → answer ≡ cond equal Equal Different → frame₁ ≡ writing.write_output rule frame → Returns answer frame₁ out₁
-    taken_returns q decided a l =
+    pub taken_returns : {bytes : ℕ} → r ≡ Ok bytes → {equal : Bool} → (ContentOf content bytes out₁ → equal ≡ true) → frame₁ ≡ writing.write_output rule frame → Returns (Ok equal) frame₁ out₁
+    taken_returns q decided l =
         let t = taken_back q in
         of_written_lem
-        (ap of_frame_return (a ∙ ap (λ z. cond z Equal Different) (decided t.equal)) ∙ ap (λ z. frame_answer (writing.written w.bits) (answered z)) (sym t.fits))
+        (ap (λ z. of_frame_return (Ok z)) (decided t.equal) ∙ ap (λ z. frame_answer (writing.written w.bits) (answered z)) (sym t.fits))
         l
 
-    pub refused_returns : {x : ReadRefusal} → r ≡ reads.Refused x → frame₁ ≡ writing.write_output rule frame → Returns (NotRead x) frame₁ out₁
+    pub refused_returns : {x : ReadRefusal} → r ≡ Err x → frame₁ ≡ writing.write_output rule frame → Returns (Err (NotRead x)) frame₁ out₁
     refused_returns {x} q l = of_written_lem (go (leb (length content) (length out)) (sym (ap of_read q) ∙ ap (λ c. c.answer) back_is)) l
       where
-        go : (fits : Bool) → of_read (reads.Refused x) ≡ of_read_answer (answered fits)
-            → of_frame_return (NotRead x) ≡ frame_answer (writing.written w.bits) (answered fits)
+        go : (fits : Bool) → of_read (Err x) ≡ of_read_answer (answered fits)
+            → of_frame_return (Err (NotRead x)) ≡ frame_answer (writing.written w.bits) (answered fits)
         go true g = let z : ◌≡◌ {A = ℕ} 0 1 = cc in absurd (omega arith)
         go false g = cc

@@ -1,24 +1,27 @@
 -- What writing a frame, reading it back and comparing answer, by the rules of writing and reading. Assumes nothing.
-use Rattle.std.specs.Prelude.{◌≡◌, ℕ, cond, List, leb, length, take}
+use Rattle.std.specs.Prelude.{◌≡◌, ℕ, cond, Bool, true, false, List, leb, length, take, Result, Ok, Err}
 use Rattle.bits.specs.Bytes.{bits_of}
 use Rattle.cyclic.specs.Check.{Parameters}
 use Rattle.frame.specs.Read as reading
 use Rattle.frame.specs.Write as writing
 use Rattle.frame.specs.Answers as answers
 use Rattle.roundtrip.specs.Returns.{Returned, equal, different, refused, RoundTrip, returned}
-use Rattle.frame_roundtrip.specs.declared.FrameReturn.{FrameReturn}
-use Rattle.frame_roundtrip.specs.declared.FrameReturn.TheVariants as code
+use Rattle.frame.specs.declared.ReadRefusal.{ReadRefusal}
+use Rattle.frame.specs.declared.WriteRefusal.{WriteRefusal}
+use Rattle.roundtrip.specs.declared.RoundTripError.{RoundTripError}
+use Rattle.roundtrip.specs.declared.RoundTripError.TheVariants.{NotWritten, NotRead}
 
 -- what reading a written frame answers, of an output of `space` bytes
 abbrev pub frame_back : List ℕ → ℕ → reading.ReadAnswer
 frame_back content space =
     cond (leb (length content) space) (reading.taken (bits_of content)) (reading.refusal 38 (length content))
 
-abbrev pub of_frame_return : FrameReturn → Returned
-of_frame_return code.Equal = equal
-of_frame_return (code.NotWritten r) = refused (answers.write_number r) (answers.write_value r)
-of_frame_return (code.NotRead r) = refused (answers.read_number r) (answers.read_value r)
-of_frame_return code.Different = different
+-- of whether the content came back
+abbrev pub of_frame_return : Result Bool (RoundTripError WriteRefusal ReadRefusal) → Returned
+of_frame_return (Ok true) = equal
+of_frame_return (Ok false) = different
+of_frame_return (Err (NotWritten r)) = refused (answers.write_number r) (answers.write_value r)
+of_frame_return (Err (NotRead r)) = refused (answers.read_number r) (answers.read_value r)
 
 abbrev pub frame_answer : writing.WriteAnswer → reading.ReadAnswer → Returned
 frame_answer (writing.refusal number value) read = refused number value

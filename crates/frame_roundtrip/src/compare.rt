@@ -1,9 +1,7 @@
 // What was read beside what was written.
 ghost use Rattle.std.specs.Prelude.{◌≤◌, length};
-ghost use Rattle.roundtrip.specs.Returns.{Decides};
+ghost use Rattle.std.specs.Bool.{Decides};
 ghost use Rattle.frame_roundtrip.specs.Returns.{ContentOf};
-
-use check::same;
 
 // Whether so many bytes were read as the content has, and the output starts with the content.
 pub(crate) fn same_content(bytes: usize, content: &[u8], out: &[u8]) -> bool
@@ -14,5 +12,5 @@ pub(crate) fn same_content(bytes: usize, content: &[u8], out: &[u8]) -> bool
     if bytes != n {
         return false;
     }
-    same(content, &out[..n])
+    content == &out[..n]
 }

@@ -1,12 +1,13 @@
 -- One pass with the check: what is left to pass gives the whole. Assumes nothing.
 use mathlib.Core.Path.{◌≡◌, refl, sym, ap, ap₂, ◌∙◌}
-use mathlib.Core.Bool.{Bool, true, false}
+use mathlib.Core.Bool.{Bool}
 use mathlib.Core.List.{List, ◌++◌, append_assoc}
 use Prim.Native.Nat.{ℕ, suc, ◌+◌, ◌*◌, ◌-◌, ◌/◌, ◌%◌, ◌^◌, ◌<◌, ◌≤◌}
 use native.Mathlib.Nat.{mod-eq_of_lt}
 use native.Mathlib.Omega.{arith}
 use lib.ListN.{length, take, drop, get_or, length-append}
 use lib.Seq.{slice, take_at, drop_at}
+use Rattle.std.specs.Prelude.{Some, None}
 use Rattle.bits.specs.Bytes.{low_bits, bits_of, value, pack_into}
 use Rattle.bits.proofs.Bytes.{length-low_bits, low_bits-append, value-low_bits}
 use Rattle.bits.proofs.WholeBytes.{pack_into-none}
@@ -14,12 +15,13 @@ use Rattle.registers.specs.Register.{enter_by_table, enter_all_by_table}
 use Rattle.frame.specs.Stuffing.{Unstuffed, clean, missing, unstuff}
 use Rattle.zero_removal.specs.declared.LineReader.{LineReader}
 use Rattle.zero_removal.specs.declared.ByteRead.{ByteRead}
+use Rattle.zero_removal.specs.declared.MissingZero.{MissingZero}
 use Rattle.frame.proofs.Words.{bits_of_on}
-use Rattle.zero_removal.specs.Removal.{ones_before, in_front}
-use Rattle.zero_removal.specs.Reader.{ReaderFits, pending_bits, whole_bits, ReadsByte, left_at}
-use Rattle.zero_removal.proofs.Parts.{in_front-none, moved, unstuff_at, moved_front, slice_rest, byte_missing, byte_turn, first_reader, first_fits, first-left}
+use Rattle.zero_removal.specs.Removal.{ones_before, in_front, Lacks}
+use Rattle.zero_removal.specs.Reader.{ReaderFits, pending_bits, whole_bits, ReadsByte, left_at, first_reader}
+use Rattle.zero_removal.proofs.Parts.{in_front-none, moved, unstuff_at, moved_front, slice_rest, byte_missing, byte_turn, first_fits, first-left}
 use Rattle.line_ends.specs.declared.LastRead.{LastRead}
-use Rattle.line_ends.specs.Last.{last_of, LastBits, ReadsLast}
+use Rattle.line_ends.specs.Last.{last_of, LastBits, LacksLast}
 use Rattle.frame_walk.specs.Walk.{Walked, closed, refused}
 use Rattle.frame_walk.specs.Steps.{passed}
 
@@ -46,52 +48,51 @@ pub record Passing (table : List ℕ) (start : ℕ) (lent : List ℕ) (end regis
   pub within : 8 * index ≤ end
   pub counted : count + 8 ≤ 8 * index
 
-pub pass_begin : (table : List ℕ) (start : ℕ) (lent : List ℕ) (end : ℕ) → 8 ≤ end → Passing table start lent end start 0 1 first_reader
-pass_begin table start lent end h =
-    record {
+pub pass_begin : (table : List ℕ) (start : ℕ) (lent : List ℕ) (end : ℕ) → 8 ≤ end → {r : LineReader} → r ≡ first_reader → Passing table start lent end start 0 1 r
+pass_begin table start lent end h e =
+    rw e
+    (record {
       left = ap (passed table end start 0) (first-left (bits_of lent) end);
       fits = first_fits;
       within = omega arith;
       counted = omega arith;
-    }
+    })
 
 module _ {table : List ℕ} {start : ℕ} {lent : List ℕ} {end register count index : ℕ} {r : LineReader} (wide : end + 8 ≤ 8 * length lent)
-    (j : Passing table start lent end register count index r) (h : 8 * (index + 1) ≤ end) {x : ByteRead} (reads : ReaderFits r → ReadsByte r (get_or lent index 0) x) where
+    (j : Passing table start lent end register count index r) (h : 8 * (index + 1) ≤ end) where
   fit : end ≤ 8 * length lent
   fit = omega arith
 
-  e : ReadsByte r (get_or lent index 0) x
-  e = reads j.fits
-
-  pub pass_missing : x.missing < 8 → refused 33 (8 * index + x.missing) ≡ passed table end start 0 (unstuff 0 8 (slice 8 end (bits_of lent)))
+  pub pass_missing : {m : MissingZero} → Lacks r.before (get_or lent index 0) m
+      → refused 33 (8 * index + m.0) ≡ passed table end start 0 (unstuff 0 8 (slice 8 end (bits_of lent)))
   unfolding passed
-  pass_missing m = sym (ap (passed table end register count) (byte_missing lent end fit r index h e m)) ∙ j.left
+  pass_missing l = sym (ap (passed table end register count) (byte_missing lent end fit r index h l)) ∙ j.left
 
-  module _ (m : 8 ≤ x.missing) where
-    turned : left_at (bits_of lent) end index r ≡ in_front (whole_bits x.whole x.byte) (left_at (bits_of lent) end (index + 1) x.next)
-    turned = byte_turn lent end fit r index h e (omega (arith, e.missing_le))
+  module _ {x : ByteRead} (e : ReadsByte r (get_or lent index 0) x) where
+    turned : left_at (bits_of lent) end index r ≡ in_front (whole_bits x.byte) (left_at (bits_of lent) end (index + 1) x.next)
+    turned = byte_turn lent end fit r index h e
 
-    pub pass_turn : x.whole ≡ true → x.byte < 256 → {next : ℕ} → next ≡ enter_by_table table register x.byte
+    pub pass_turn : {b : ℕ} → x.byte ≡ Some b → b < 256 → {next : ℕ} → next ≡ enter_by_table table register b
         → Passing table start lent end next (count + 8) (index + 1) x.next
-    pass_turn w small q =
+    pass_turn {b} w small q =
         let after = left_at (bits_of lent) end (index + 1) x.next in
         record {
           left =
               ap (λ n. passed table end n (count + 8) after) q
-              ∙ sym (passed-byte table end register count x.byte small after)
-              ∙ ap (λ v. passed table end register count (in_front (whole_bits v x.byte) after)) (sym w)
+              ∙ sym (passed-byte table end register count b small after)
+              ∙ ap (λ v. passed table end register count (in_front (whole_bits v) after)) (sym w)
               ∙ ap (passed table end register count) (sym turned) ∙ j.left;
           fits = e.fits;
           within = h;
           counted = omega (arith, j.counted);
         }
 
-    pub pass_part : x.whole ≡ false → Passing table start lent end register count (index + 1) x.next
+    pub pass_part : x.byte ≡ None → Passing table start lent end register count (index + 1) x.next
     pass_part w =
         let after = left_at (bits_of lent) end (index + 1) x.next in
         record {
           left =
-              ap (passed table end register count) (sym (in_front-none after) ∙ ap (λ v. in_front (whole_bits v x.byte) after) (sym w) ∙ sym turned)
+              ap (passed table end register count) (sym (in_front-none after) ∙ ap (λ v. in_front (whole_bits v) after) (sym w) ∙ sym turned)
               ∙ j.left;
           fits = e.fits;
           within = h;
@@ -127,19 +128,18 @@ left_last lent end fits r =
     ∙ ap (in_front (pending_bits r)) (unstuff_at ones (8 * i) (low_bits k byte))
     ∙ moved_front (8 * i) (pending_bits r) (unstuff ones 0 (low_bits k byte))
 
-module _ (table : List ℕ) (register count : ℕ) (r : LineReader) (lent : List ℕ) (end : ℕ) (fits : end + 8 ≤ 8 * length lent) {x : LastRead}
-    (e : ReadsLast r (get_or lent (end / 8) 0) (end % 8) x) where
+module _ (table : List ℕ) (register count : ℕ) (r : LineReader) (lent : List ℕ) (end : ℕ) (fits : end + 8 ≤ 8 * length lent) where
   abbrev i : ℕ
   i = end / 8
 
-  pub last_missing : x.missing < 8 → refused 33 (8 * i + x.missing) ≡ passed table end register count (left_at (bits_of lent) end i r)
+  abbrev pub left_over : Unstuffed
+  left_over = last_of r (get_or lent i 0) (end % 8)
+
+  pub last_missing : {m : MissingZero} → LacksLast left_over m → refused 33 (8 * i + m.0) ≡ passed table end register count (left_at (bits_of lent) end i r)
   unfolding passed
-  last_missing m = ap (passed table end register count) (sym (left_last lent end fits r ∙ ap (moved (8 * i)) (e.unsound m)))
+  last_missing l = ap (passed table end register count) (sym (left_last lent end fits r ∙ ap (moved (8 * i)) l.place_is))
 
-  module _ (m : 8 ≤ x.missing) where
-    found : LastBits (last_of r (get_or lent i 0) (end % 8)) x
-    found = e.sound m
-
+  module _ {x : LastRead} (found : LastBits left_over x) where
     abbrev s : List Bool
     s = found.bits
 
@@ -149,19 +149,19 @@ module _ (table : List ℕ) (register count : ℕ) (r : LineReader) (lent : List
     pub last_few : x.bits < 16
     last_few = omega (arith, found.counted, found.below)
 
-    pub last_part : x.bits < 8 → closed end (count + x.bits) register ≡ passed table end register count (left_at (bits_of lent) end i r)
+    pub last_part : x.byte ≡ None → closed end (count + x.bits) register ≡ passed table end register count (left_at (bits_of lent) end i r)
     unfolding passed enter_all_by_table
-    last_part l =
-        let z : length s / 8 ≤ 0 = omega (arith, found.counted) in
+    last_part w =
+        let z : length s / 8 ≤ 0 = omega (arith, found.fewer w) in
         ap₂ (closed end) (ap (λ k. count + k) found.counted) (sym (ap (enter_all_by_table table register) (pack_into-none (length s / 8) s z)))
         ∙ ap (passed table end register count) (sym left)
 
-    pub last_byte : 8 ≤ x.bits → {next : ℕ} → next ≡ enter_by_table table register x.byte
+    pub last_byte : {b : ℕ} → x.byte ≡ Some b → {next : ℕ} → next ≡ enter_by_table table register b
         → closed end (count + x.bits) next ≡ passed table end register count (left_at (bits_of lent) end i r)
     unfolding passed enter_all_by_table pack_into
-    last_byte g en =
-        let q : length s / 8 ≡ 1 = omega (arith, found.counted, found.below) in
+    last_byte {b} w en =
+        let f = found.first b w in
+        let q : length s / 8 ≡ 1 = omega (arith, f.0, found.below) in
         ap₂ (closed end) (ap (λ k. count + k) found.counted)
-        (en
-        ∙ sym (ap (λ x. enter_all_by_table table register (pack_into x s)) q ∙ ap (enter_by_table table register) (found.first (omega (arith, found.counted)))))
+        (en ∙ sym (ap (λ x. enter_all_by_table table register (pack_into x s)) q ∙ ap (enter_by_table table register) f.1))
         ∙ ap (passed table end register count) (sym left)

@@ -1,6 +1,6 @@
 -- The walk over the bits of a frame: questions 31 to 33 in turn (document 01, "Questions before a line is taken"), then what stands
 -- between the flags. Assumes nothing.
-use Rattle.std.specs.Prelude.{ℕ, ◌-◌, ◌*◌, ◌/◌, Bool, cond, List, leb, length, take, drop}
+use Rattle.std.specs.Prelude.{ℕ, ◌-◌, ◌*◌, ◌/◌, Bool, cond, List, leb, length, take, drop, Result, Ok, Err}
 use Rattle.bits.specs.Strings.{same}
 use Rattle.bits.specs.Bytes.{bits_of, value}
 use Rattle.cyclic.specs.Check.{Parameters, formula}
@@ -8,8 +8,8 @@ use Rattle.frame.specs.Stuffing.{Unstuffed, clean, missing, unstuff}
 use Rattle.frame.specs.Frame.{flag}
 use Rattle.frame.specs.Read.{between}
 use Rattle.frame.specs.Answers.{read_number, read_value}
-use Rattle.frame_walk.specs.declared.WalkEnd.{WalkEnd}
-use Rattle.frame_walk.specs.declared.WalkEnd.TheVariants as code
+use Rattle.frame.specs.declared.ReadRefusal.{ReadRefusal}
+use Rattle.frame_walk.specs.declared.Walk.{Walk}
 
 -- the place of the closing flag, the number of bits of content and check, and the register of the check after their whole bytes; or
 -- number and value of a refusal
@@ -17,9 +17,9 @@ pub data Walked : Type 0 where
   closed : ℕ → ℕ → ℕ → Walked
   refused : ℕ → ℕ → Walked
 
-abbrev pub of_walk : WalkEnd → Walked
-of_walk (code.Closed w) = closed w.end w.count w.register
-of_walk (code.Refused r) = refused (read_number r) (read_value r)
+abbrev pub of_walk : Result Walk ReadRefusal → Walked
+of_walk (Ok w) = closed w.end w.count w.register
+of_walk (Err r) = refused (read_number r) (read_value r)
 
 abbrev pub ask : Bool → ℕ → ℕ → Walked → Walked
 ask holds number value next = cond holds next (refused number value)

@@ -2,21 +2,24 @@
 // of the check after their whole bytes. `walk_frame` takes every input.
 #![tactic(auto)]
 
-use frame::ReadRefusal;
+ghost use Rattle.std.specs.Prelude.{◌+◌, ◌*◌, ◌^◌, ◌<◌, ◌≤◌, length};
 
 // The place of the closing flag, how many bits content and check have, and the register of the check after their whole bytes.
-#[derive(Clone, Copy)]
+#[derive(Clone, Copy, Debug)]
 pub struct Walk {
     pub end: usize,
     pub count: usize,
     pub register: u32,
 }
 
-// How a walk ended.
+// The bytes lent, and the place of the closing flag in them, behind the opening one.
 #[derive(Clone, Copy)]
-pub enum WalkEnd {
-    Closed(Walk),
-    Refused(ReadRefusal),
+pub(crate) struct Line<'a> {
+    pub lent: &'a [u8],
+    pub end: usize,
+    ghost opened: { 8 ≤ end },
+    ghost closed: { end + 8 ≤ 8 * length lent.now },
+    ghost end_small: { end + 8 < 2 ^ 64 },
 }
 
 mod pass;

@@ -1,82 +1,81 @@
 // One pass over the line between the flags: question 33, how many bits content and check have, and the register of the check after
 // their whole bytes. The table is that of the method's generator, of 16 or of 32 bits.
-ghost use Rattle.std.specs.Prelude.{◌≡◌, ◌+◌, ◌*◌, ◌/◌, ◌^◌, ◌<◌, ◌≤◌, length};
+ghost use Rattle.std.specs.Prelude.{◌≡◌, ◌+◌, ◌*◌, ◌/◌, ◌^◌, ◌<◌, ◌≤◌};
 ghost use Rattle.std.proofs.Math.Seq.{slice};
 ghost use Rattle.bits.specs.Bytes.{bits_of};
 ghost use Rattle.frame.specs.Stuffing.{unstuff};
 ghost use Rattle.frame_walk.specs.Walk.{of_walk};
 ghost use Rattle.zero_removal.specs.Reader.{ReaderFits, left_at};
-ghost use Rattle.frame_walk.specs.Steps.{passed};
+ghost use Rattle.frame_walk.specs.Steps.{passed, zero_missing_at};
 
-use crate::{Walk, WalkEnd};
+use crate::{Line, Walk};
 use frame::{BitPlace, ReadRefusal};
 use line_ends::read_last;
 use registers::enter_byte;
-use zero_removal::{LineReader, read_bits, unstuff_byte};
+use zero_removal::{LineReader, MissingZero, read_bits, unstuff_byte};
 
-// The bits behind the whole bytes of the line: at most one byte of content and check is whole there.
-fn last(
-    table: &[u32; 256],
-    register: u32,
-    count: usize,
-    r: LineReader,
-    lent: &[u8],
-    end: usize,
-) -> WalkEnd
-    requires { ReaderFits r × (end + 8 ≤ 8 * length lent.now) × (end + 8 < 2 ^ 64) × (count + 8 ≤ end) }
-    ensures { of_walk result ≡ passed table.now end register count (left_at (bits_of lent.now) end (end / 8) r) }
+// Question 33: where in the frame a byte of the line lacks a zero.
+fn zero_missing(index: usize, at: MissingZero) -> ReadRefusal
+    requires { 8 * index + at.0 < 2 ^ 64 }
+    ensures { result ≡ zero_missing_at (8 * index + at.0) }
 {
-    let index = end / 8;
-    let x = read_last(r, lent[index], end % 8);
-    if x.missing < 8 {
-        return WalkEnd::Refused(ReadRefusal::ZeroMissing(BitPlace(8 * index + x.missing as usize)));
-    }
-    let bits = count + x.bits as usize;
-    if x.bits < 8 {
-        return WalkEnd::Closed(Walk {
-            end,
-            count: bits,
-            register,
-        });
-    }
-    WalkEnd::Closed(Walk {
-        end,
-        count: bits,
-        register: enter_byte(table, register, x.byte),
-    })
+    ReadRefusal::ZeroMissing(BitPlace(8 * index + at.0 as usize))
 }
 
-pub(crate) fn pass(table: &[u32; 256], start: u32, lent: &[u8], end: usize) -> WalkEnd
-    requires { (8 ≤ end) × (end + 8 ≤ 8 * length lent.now) × (end + 8 < 2 ^ 64) }
-    ensures { of_walk result ≡ passed table.now end start 0 (unstuff 0 8 (slice 8 end (bits_of lent.now))) }
-{
-    let mut register = start;
-    let mut count: usize = 0;
-    let mut index: usize = 1;
-    let mut r = LineReader {
-        before: 0,
-        held: 0,
-        pending: 0,
-    };
-    while index < end / 8 {
-        let byte = lent[index];
-        let got = unstuff_byte(r.before, byte);
-        let read = read_bits(r, byte, got);
-        let missing = read.missing;
-        if missing < 8 {
-            return WalkEnd::Refused(ReadRefusal::ZeroMissing(BitPlace(
-                8 * index + missing as usize,
-            )));
-        }
-        if read.whole {
-            register = enter_byte(table, register, read.byte);
-            count += 8;
-            index += 1;
-            r = read.next;
-        } else {
-            index += 1;
-            r = read.next;
-        }
+impl Line<'_> {
+    // The bits behind the whole bytes of the line: at most one byte of content and check is whole there.
+    fn last(
+        self,
+        table: &[u32; 256],
+        register: u32,
+        count: usize,
+        r: LineReader,
+    ) -> Result<Walk, ReadRefusal>
+        requires { ReaderFits r × (count + 8 ≤ self.end) }
+        ensures { of_walk result ≡ passed table.now self.entry.end register count (left_at (bits_of self.entry.lent.now) self.entry.end (self.entry.end / 8) r) }
+    {
+        let end = self.end;
+        let index = end / 8;
+        let left = match read_last(r, self.lent[index], end % 8) {
+            Ok(left) => left,
+            Err(at) => return Err(zero_missing(index, at)),
+        };
+        let count = count + left.bits as usize;
+        let Some(byte) = left.byte else {
+            return Ok(Walk {
+                end,
+                count,
+                register,
+            });
+        };
+        Ok(Walk {
+            end,
+            count,
+            register: enter_byte(table, register, byte),
+        })
     }
-    last(table, register, count, r, lent, end)
+
+    pub(crate) fn pass(self, table: &[u32; 256], start: u32) -> Result<Walk, ReadRefusal>
+        ensures { of_walk result ≡ passed table.now self.entry.end start 0 (unstuff 0 8 (slice 8 self.entry.end (bits_of self.entry.lent.now))) }
+    {
+        let lent = self.lent;
+        let end = self.end;
+        let mut register = start;
+        let mut count: usize = 0;
+        let mut r = LineReader::new();
+        for index in 1..end / 8 {
+            let byte = lent[index];
+            let got = match unstuff_byte(r.before, byte) {
+                Ok(got) => got,
+                Err(at) => return Err(zero_missing(index, at)),
+            };
+            let read = read_bits(r, byte, got);
+            r = read.next;
+            if let Some(whole) = read.byte {
+                register = enter_byte(table, register, whole);
+                count += 8;
+            }
+        }
+        self.last(table, register, count, r)
+    }
 }

@@ -15,17 +15,15 @@ use Rattle.bits.specs.Bytes.{low_bits, bits_of, bytes_for, pack_into, pack}
 use Rattle.bits.specs.Calls.{called}
 use Rattle.bits.proofs.Bytes.{length-low_bits, length-bits_of}
 use Rattle.bits.proofs.Packing.{bits_of-little_endian, pack-low_bits, length-pack}
-use Rattle.cyclic.specs.Check.{Parameters, check_bits, checked_bits, method5, method6}
+use Rattle.cyclic.specs.Check.{Parameters, check_bits, checked_bits}
 use Rattle.frame_writer.specs.declared.BitWriter.{BitWriter}
 use Rattle.frame_writer.specs.declared.ZeroCount.{ZeroCount}
-use Rattle.frame.specs.declared.FrameMethod.{FrameMethod}
-use Rattle.frame.specs.declared.FrameMethod.TheVariants as method
 use Rattle.frame.specs.Stuffing.{is_fifth, run_on, zero_if, stuff, run_after}
-use Rattle.frame.specs.Frame.{parameters_of, flag, enclose, frame_of}
+use Rattle.frame.specs.Frame.{flag, enclose, frame_of}
 use Rattle.frame.specs.Write.{WriteAnswer, ask_room, write_frame, write_output}
 use Rattle.frame.specs.Answers.{Numbers, frame, refused, after_writing}
 use Rattle.zero_insertion.specs.Insertion.{run_before}
-use Rattle.frame_writer.specs.Steps.{Fits, position, stored, Puts, Counts}
+use Rattle.frame_writer.specs.Steps.{Opens, position, stored, Puts, Counts}
 use Rattle.frame.proofs.Stuffing.{run_on_le}
 use Rattle.frame_writer.proofs.Writers.{length-parts, Putting, put_begin, put_turn, puts_append}
 use Rattle.frame.proofs.Words.{join, joined-or, joined_small, joined-bits, byte-bits, store_byte, pack_part, rest_small}
@@ -33,15 +31,13 @@ use Rattle.frame.proofs.Words.{join, joined-or, joined_small, joined-bits, byte-
 -- ---- between two flags
 
 -- behind the opening flag
-abbrev pub opened : BitWriter
-opened = record { index = 1; place = 0; held = 0; before = 0 }
-
-pub opened-fits : Fits opened
-opened-fits = record { place_small = omega arith; held_small = lit< tt; before_small = omega arith }
-
-pub opened-run : run_before 0 ≡ 0
+pub opened-run : {before : ℕ} → before ≡ 0 → run_before before ≡ 0
 unfolding run_before low_bits run_after run_on
-opened-run = refl
+opened-run e = ap run_before e
+
+opened-stored : (out : List ℕ) (w : BitWriter) → Opens w → (s : List Bool) → stored out w s ≡ sets out 1 (pack s)
+unfolding low_bits
+opened-stored out w o s = rw (o.index_is, o.place_is) refl
 
 length-flag : length flag ≡ 8
 unfolding flag
@@ -52,27 +48,27 @@ unfolding enclose
 length-enclose s = length-append flag (stuff 0 s ++ flag) ∙ omega (arith, length-append (stuff 0 s) flag, length-flag)
 
 -- the position of the writer and the room, with the number that the code has
-pub opened-length : (s : List Bool) → 8 + position opened + length (stuff (run_before 0) s) ≡ length (enclose s)
-opened-length s = omega (arith, length-enclose s, ap (λ r. length (stuff r s)) opened-run)
+pub opened-length : {w : BitWriter} → Opens w → (s : List Bool) → 8 + position w + length (stuff (run_before w.before) s) ≡ length (enclose s)
+opened-length o s = omega (arith, o.index_is, o.place_is, length-enclose s, ap (λ r. length (stuff r s)) (opened-run o.before_is))
 
 -- flag, content and check, flag
-pub put_enclosed : (s : List Bool) (out : List ℕ) {filled closed : List ℕ} {w : BitWriter} → bytes_for (length (enclose s)) ≤ length out
-    → Puts (set out 0 0x7E) opened s filled w → closed ≡ stored filled w flag
+pub put_enclosed : (s : List Bool) (out : List ℕ) {filled closed : List ℕ} {start w : BitWriter} → Opens start → bytes_for (length (enclose s)) ≤ length out
+    → Puts (set out 0 0x7E) start s filled w → closed ≡ stored filled w flag
     → closed ≡ pack (enclose s) ++ drop (bytes_for (length (enclose s))) out
 unfolding enclose flag low_bits
-put_enclosed s out {filled} {closed} {w} h p e =
-    let t = stuff (run_before 0) s ++ flag in
+put_enclosed s out {filled} {closed} {start} {w} r h p e =
+    let t = stuff (run_before start.before) s ++ flag in
     let o : set out 0 (0x7E % 256) ≡ set out 0 0x7E = refl in
     let q : 0 + length (pack (enclose s)) ≡ bytes_for (length (enclose s)) = omega (arith, length-pack (enclose s)) in
-    e ∙ p.rest flag
+    e ∙ p.rest flag ∙ opened-stored (set out 0 0x7E) start r t
     ∙ sym (store_byte out 0 0x7E t)
-    ∙ ap (λ r. sets out 0 (pack (flag ++ (stuff r s ++ flag)))) opened-run
+    ∙ ap (λ r. sets out 0 (pack (flag ++ (stuff r s ++ flag)))) (opened-run r.before_is)
     ∙ sets-eq (pack (enclose s)) out 0 (omega arith)
     ∙ ap (λ k. pack (enclose s) ++ drop k out) q
 
 -- ---- the closing flag
 
-module _ (out : List ℕ) (w : BitWriter) (f : Fits w) where
+module _ (out : List ℕ) (w : BitWriter) where
   -- held bits and the flag
   abbrev word : ℕ
   word = join w.place w.held 0x7E
@@ -81,12 +77,12 @@ module _ (out : List ℕ) (w : BitWriter) (f : Fits w) where
   flag_small = lit< tt
 
   word-or : bit_or w.held (0x7E * 2 ^ w.place % 4294967296) ≡ word
-  word-or = joined-or w.place w.held 8 0x7E f.held_small flag_small (omega (arith, f.place_small))
+  word-or = joined-or w.place w.held 8 0x7E w.held_small flag_small (omega (arith, w.place_small))
 
   word_bits_lem : low_bits w.place w.held ++ flag ≡ low_bits 8 word ++ low_bits w.place (word / 256)
   unfolding flag
   word_bits_lem =
-      joined-bits w.place w.held 8 0x7E f.held_small flag_small ∙ ap (λ k. low_bits k word) (add_comm w.place 8) ∙ byte-bits w.place word
+      joined-bits w.place w.held 8 0x7E w.held_small flag_small ∙ ap (λ k. low_bits k word) (add_comm w.place 8) ∙ byte-bits w.place word
 
   stored-flag : stored out w flag ≡ sets (set out w.index (word % 256)) (w.index + 1) (pack (low_bits w.place (word / 256)))
   stored-flag = ap (λ z. sets out w.index (pack z)) word_bits_lem ∙ store_byte out w.index word (low_bits w.place (word / 256))
@@ -105,12 +101,12 @@ module _ (out : List ℕ) (w : BitWriter) (f : Fits w) where
         → set (set out w.index b) (w.index + 1) d ≡ stored out w flag
     flag_in_two {d} ed n =
         let small : word / 256 < 2 ^ w.place =
-        rest_small w.place (subst (λ (k : ℕ). word < 2 ^ k) (add_comm 8 w.place) (joined_small w.place w.held 8 0x7E f.held_small flag_small)) in
-        let byte : 2 ^ w.place < 2 ^ 8 = pow-lt f.place_small in
+        rest_small w.place (subst (λ (k : ℕ). word < 2 ^ k) (add_comm 8 w.place) (joined_small w.place w.held 8 0x7E w.held_small flag_small)) in
+        let byte : 2 ^ w.place < 2 ^ 8 = pow-lt w.place_small in
         let p : 0 < w.place = omega (arith, n) in
         let v : word / 256 % 256 ≡ word / 256 % 2 ^ w.place = mod-eq_of_lt (lt_trans small byte) ∙ sym (mod-eq_of_lt small) in
         ap₂ (λ x y. set (set out w.index x) (w.index + 1) y) first_byte (ed ∙ ap (λ x. x / 256 % 256) word-or ∙ v)
-        ∙ sym (stored-flag ∙ ap (sets (set out w.index (word % 256)) (w.index + 1)) (pack_part w.place (word / 256) p f.place_small))
+        ∙ sym (stored-flag ∙ ap (sets (set out w.index (word % 256)) (w.index + 1)) (pack_part w.place (word / 256) p w.place_small))
 
 -- ---- how long a frame is
 
@@ -133,38 +129,39 @@ module _ (content check : List ℕ) where
   pub length_both : length both ≡ 8 * length content + 8 * length check
   length_both = length-append (bits_of content) (bits_of check) ∙ omega (arith, length-bits_of content, length-bits_of check)
 
-  module _ {out middle : List ℕ} {body : BitWriter} (pb : Puts out opened (bits_of content) middle body) (lm : length middle ≡ length out) where
-    pub content_put : Putting out opened both middle body (bits_of check)
-    content_put = put_turn (bits_of content) (put_begin opened-fits) refl pb lm
+  module _ {out middle : List ℕ} {start body : BitWriter} (pb : Puts out start (bits_of content) middle body) (lm : length middle ≡ length out) where
+    pub content_put : Putting out start both middle body (bits_of check)
+    content_put = put_turn (bits_of content) (put_begin out start both) refl pb lm
 
-    pub check_put : {filled : List ℕ} {tail : BitWriter} → Puts middle body (bits_of check) filled tail → length filled ≡ length middle → Puts out opened both filled tail
-    check_put pt lf = puts_append (bits_of content) (bits_of check) opened-fits pb lm pt lf
+    pub check_put : {filled : List ℕ} {tail : BitWriter} → Puts middle body (bits_of check) filled tail → length filled ≡ length middle → Puts out start both filled tail
+    check_put pt lf = puts_append (bits_of content) (bits_of check) pb lm pt lf
 
   -- the bits written, before the closing flag
-  pub put_position : {out after : List ℕ} {w : BitWriter} → Puts out opened both after w → position w + 8 ≡ length (enclose both)
-  put_position p = omega (arith, p.index_is, p.place_is, opened-length both)
+  pub put_position : {out after : List ℕ} {start w : BitWriter} → Opens start → Puts out start both after w → position w + 8 ≡ length (enclose both)
+  put_position o p = omega (arith, p.index_is, p.place_is, opened-length o both)
 
   pub frame_le : 5 * length (enclose both) ≤ 48 * length content + 48 * length check + 80
   frame_le = omega (arith, length-enclose both, stuff_le 0 both (omega arith), length_both)
 
   -- the zeros of the content, then those of the check
-  module _ {body : ZeroCount} (eb : Counts (record { zeros = 0; before = 0 }) (bits_of content) body) where
+  module _ {start body : ZeroCount} (none : (start.zeros ≡ 0) × (start.before ≡ 0)) (eb : Counts start (bits_of content) body) where
     pub body_few : body.zeros ≤ 8 * length content
     body_few =
         omega (
           arith,
+          none.0,
           eb.zeros_are,
           length-bits_of content,
-          ap (λ r. length (stuff r (bits_of content))) opened-run,
+          ap (λ r. length (stuff r (bits_of content))) (opened-run none.1),
           stuff_le 0 (bits_of content) (omega arith),
         )
 
     pub zeros-counted : {tail : ZeroCount} → Counts body (bits_of check) tail → 8 * (length content + length check) + tail.zeros + 16 ≡ length (enclose both)
     zeros-counted {tail} et =
-        let r : run_before body.before ≡ run_after 0 (bits_of content) = eb.run_is ∙ ap (λ z. run_after z (bits_of content)) opened-run in
-        let m = ap (λ z. length (stuff z (bits_of content))) opened-run in
+        let r : run_before body.before ≡ run_after 0 (bits_of content) = eb.run_is ∙ ap (λ z. run_after z (bits_of content)) (opened-run none.1) in
+        let m = ap (λ z. length (stuff z (bits_of content))) (opened-run none.1) in
         let n = ap (λ z. length (stuff z (bits_of check))) r in
-        omega (arith, eb.zeros_are, et.zeros_are, length-bits_of content, length-bits_of check, length-enclose both, length-parts 0 (bits_of content) (bits_of check))
+        omega (arith, none.0, eb.zeros_are, et.zeros_are, length-bits_of content, length-bits_of check, length-enclose both, length-parts 0 (bits_of content) (bits_of check))
 
 -- ---- the bytes of the check carry its bits
 
@@ -180,11 +177,6 @@ unfolding frame_of checked_bits
 frame_sent m content n r e f = ap (λ s. enclose (bits_of content ++ s)) (bits_of-sent n r f ∙ e)
 
 -- ---- answers
-
-pub limit_le : (m : FrameMethod) → (parameters_of m).limit ≤ 65536
-unfolding method5 method6
-limit_le method.Cyclic16 = omega arith
-limit_le method.Cyclic32 = omega arith
 
 -- an answer with its output, by the rule's
 abbrev Answers : Numbers → List ℕ → WriteAnswer → List ℕ → Type 0

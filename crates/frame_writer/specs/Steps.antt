@@ -1,17 +1,23 @@
 -- What the steps of the writer compute. The rules do not rest on these definitions. Assumes nothing.
-use Rattle.std.specs.Prelude.{◌≡◌, ℕ, ◌+◌, ◌*◌, ◌/◌, ◌%◌, ◌^◌, ◌<◌, Bool, List, ◌++◌, length}
+use Rattle.std.specs.Prelude.{◌≡◌, ℕ, ◌+◌, ◌*◌, ◌/◌, ◌%◌, Bool, List, ◌++◌, length}
 use Rattle.std.proofs.lemmas.List.Edits.{sets}
-use Rattle.bits.specs.Bytes.{low_bits, pack}
+use Rattle.bits.specs.Bytes.{low_bits, pack, bits_of}
 use Rattle.frame_writer.specs.declared.BitWriter.{BitWriter}
 use Rattle.frame_writer.specs.declared.ZeroCount.{ZeroCount}
+use Rattle.frame_writer.specs.declared.Checked.{Checked}
 use Rattle.frame.specs.Stuffing.{stuff, run_after}
 use Rattle.zero_insertion.specs.Insertion.{run_before}
 
--- a writer's place is one of a byte, and what it holds has that many bits
-pub record Fits (w : BitWriter) : Type 0 where
-  pub place_small : w.place < 8
-  pub held_small : w.held < 2 ^ w.place
-  pub before_small : w.before < 16
+-- behind the opening flag, which is the first byte of the output
+pub record Opens (w : BitWriter) : Type 0 where
+  pub index_is : w.index ≡ 1
+  pub place_is : w.place ≡ 0
+  pub held_is : w.held ≡ 0
+  pub before_is : w.before ≡ 0
+
+-- the bits of content and check
+abbrev pub checked : Checked → List Bool
+checked f = bits_of f.content.now ++ bits_of f.check.now
 
 -- the bits written
 abbrev pub position : BitWriter → ℕ
@@ -24,7 +30,6 @@ stored out w s = sets out w.index (pack (low_bits w.place w.held ++ s))
 -- the bits s put with the zeros inserted, whatever follows. The running pair of the writer is the number of bits written divided
 -- by eight, and what is left over
 pub record Puts (out : List ℕ) (w : BitWriter) (s : List Bool) (after : List ℕ) (r : BitWriter) : Type 0 where
-  pub fits : Fits r
   pub index_is : r.index ≡ (position w + length (stuff (run_before w.before) s)) / 8
   pub place_is : r.place ≡ (position w + length (stuff (run_before w.before) s)) % 8
   pub run_is : run_before r.before ≡ run_after (run_before w.before) s
@@ -34,4 +39,3 @@ pub record Puts (out : List ℕ) (w : BitWriter) (s : List Bool) (after : List �
 pub record Counts (c : ZeroCount) (s : List Bool) (r : ZeroCount) : Type 0 where
   pub zeros_are : r.zeros + length s ≡ c.zeros + length (stuff (run_before c.before) s)
   pub run_is : run_before r.before ≡ run_after (run_before c.before) s
-  pub before_small : r.before < 16

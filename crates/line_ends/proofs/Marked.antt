@@ -3,6 +3,7 @@
 use mathlib.Core.Path.{◌≡◌, refl, sym, ap, ap₂, ◌∙◌, subst}
 use mathlib.Core.Bool.{Bool, true, false, cond}
 use mathlib.Core.List.{List, [], ◌∷◌, ◌++◌, append_assoc}
+use Rattle.std.specs.Prelude.{Some, None}
 use Prim.Native.Nat.{ℕ, zero, suc, ◌+◌, ◌*◌, ◌-◌, ◌%◌, ◌^◌, ◌<◌, ◌≤◌}
 use native.Mathlib.Nat.{mod-lt, pow-suc, one-mul, add_comm, mod-eq_of_lt}
 use native.Mathlib.Omega.{arith}
@@ -19,9 +20,10 @@ use Rattle.frame.specs.Stuffing.{Unstuffed, clean, missing, ahead, unstuff_bit, 
 use Rattle.frame.proofs.Words.{join, joined-or, joined_small, joined-bits}
 use Rattle.zero_removal.specs.declared.LineReader.{LineReader}
 use Rattle.zero_removal.specs.declared.ByteRead.{ByteRead}
-use Rattle.zero_removal.specs.Removal.{ones_before, unstuff_part, in_front}
+use Rattle.zero_removal.specs.declared.MissingZero.{MissingZero}
+use Rattle.zero_removal.specs.Removal.{ones_before, unstuff_part, in_front, Lacks}
 use Rattle.zero_removal.specs.Reader.{pending_bits, whole_bits, part_of, ReadsByte}
-use Rattle.line_ends.specs.Last.{last_of, LastBits, ReadsLast}
+use Rattle.line_ends.specs.Last.{last_of, LastBits, LacksLast}
 
 -- ---- zero removal with a mark behind the bits
 
@@ -121,12 +123,18 @@ module _ (word n : ℕ) (small : word < 2 ^ n) (s : List Bool) (j : ℕ) (e : lo
       (omega (arith, word_is, value_lt s, pow-suc 2 l)) (omega (arith, word_is, pow-suc 2 l)))
 
 -- as code reads it: k modulo 8
-pub read_marked : (byte k : ℕ) {r : LineReader} {x : ByteRead} (h : k < 8) (m : k % 8 < 8) → ReadsByte r (marked_byte byte (k % 8) m) x → ReadsByte r (marked_byte byte k h) x
-read_marked byte k {r} {x} h m e = subst (λ (j : ℕ). ReadsByte r (byte % (1 * 2 ^ j % 256) + 1 * 2 ^ j % 256) x) (mod-eq_of_lt h) e
+abbrev pub marked_code : ℕ → ℕ → ℕ
+marked_code byte k = byte % (1 * 2 ^ (k % 8) % 256) + 1 * 2 ^ (k % 8) % 256
+
+pub read_marked : (byte k : ℕ) {r : LineReader} {x : ByteRead} (h : k < 8) → ReadsByte r (marked_code byte k) x → ReadsByte r (marked_byte byte k h) x
+read_marked byte k {r} {x} h e = subst (λ (j : ℕ). ReadsByte r (byte % (1 * 2 ^ j % 256) + 1 * 2 ^ j % 256) x) (mod-eq_of_lt h) e
+
+lacks_marked : (byte k before : ℕ) {m : MissingZero} (h : k < 8) → Lacks before (marked_code byte k) m → Lacks before (marked_byte byte k h) m
+lacks_marked byte k before {m} h e = subst (λ (j : ℕ). Lacks before (byte % (1 * 2 ^ j % 256) + 1 * 2 ^ j % 256) m) (mod-eq_of_lt h) e
 
 -- ---- the last bits of the line
 
-module _ (r : LineReader) (byte k : ℕ) (h : k < 8) {x : ByteRead} (e : ReadsByte r (marked_byte byte k h) x) where
+module _ (r : LineReader) (byte k : ℕ) (h : k < 8) where
   abbrev line : Unstuffed
   line = last_of r byte k
 
@@ -137,79 +145,97 @@ module _ (r : LineReader) (byte k : ℕ) (h : k < 8) {x : ByteRead} (e : ReadsBy
       subst (λ t. Marks line (in_front (pending_bits r) (unstuff_part ones 0 t))) (sym (marked-bits byte k h))
       (marks_front (pending_bits r) (unstuff ones 0 s) (unstuff_part ones 0 (s ++ (true ∷ zeros (7 - k)))) (marks ones 0 s (7 - k)))
 
-  mark_missing : x.missing < 8 → line ≡ missing x.missing
-  mark_missing m = go line (subst (Marks line) (e.unsound m) last_marks)
+  pub last_missing : {m : MissingZero} → Lacks r.before (marked_code byte k) m → LacksLast line m
+  last_missing {m} l =
+      let e = lacks_marked byte k r.before h l in
+      record { place_is = go line (subst (Marks line) (ap (in_front (pending_bits r)) e.place_is) last_marks); place_small = e.place_small }
     where
-      go : (u : Unstuffed) → Marks u (missing x.missing) → u ≡ missing x.missing
+      go : (u : Unstuffed) → Marks u (missing m.0) → u ≡ missing m.0
       go (clean d) g = absurd (let q = g.marked in let z : ◌≡◌ {A = ℕ} 0 1 = cc in omega arith)
       go (missing p) g = sym g
 
-  -- the bits, and what they are read as
-  record Found : Type 0 where
-    bits : List Bool
-    behind : ℕ
-    left : line ≡ clean bits
-    with_mark : whole_bits x.whole x.byte ++ pending_bits x.next ≡ bits ++ (true ∷ zeros behind)
+  module _ {x : ByteRead} (e : ReadsByte r (marked_byte byte k h) x) where
+    -- the bits, and what they are read as
+    record Found : Type 0 where
+      bits : List Bool
+      behind : ℕ
+      left : line ≡ clean bits
+      with_mark : whole_bits x.byte ++ pending_bits x.next ≡ bits ++ (true ∷ zeros behind)
 
-  mark_found : 8 ≤ x.missing → Found
-  mark_found m =
-      let q : x.missing ≡ 8 = omega (arith, e.missing_le) in
-      go line refl (subst (Marks line) (e.sound q) last_marks)
-    where
-      go : (u : Unstuffed) → line ≡ u → Marks u (clean (whole_bits x.whole x.byte ++ pending_bits x.next)) → Found
-      go (clean d) l g = let q = g.marked in record { bits = d; behind = g.behind; left = l; with_mark = cc }
-      go (missing p) l g = absurd (let z : ◌≡◌ {A = ℕ} 0 1 = cc in omega arith)
+    mark_found : Found
+    mark_found = go line refl (subst (Marks line) e.bits_are last_marks)
+      where
+        go : (u : Unstuffed) → line ≡ u → Marks u (clean (whole_bits x.byte ++ pending_bits x.next)) → Found
+        go (clean d) l g = let q = g.marked in record { bits = d; behind = g.behind; left = l; with_mark = cc }
+        go (missing p) l g = absurd (let z : ◌≡◌ {A = ℕ} 0 1 = cc in omega arith)
 
-  pub last_part : x.whole ≡ false → ReadsLast r byte k (record { missing = x.missing; bits = 31 - count_leading_zeros 32 x.next.held % 32; byte = 0 })
-  last_part w = record { sound = counted; unsound = mark_missing }
-    where
-      counted : 8 ≤ x.missing → LastBits line (record { missing = x.missing; bits = 31 - count_leading_zeros 32 x.next.held % 32; byte = 0 })
-      counted m =
-          let f = mark_found m in
-          let s = f.bits in
+    abbrev s : List Bool
+    s = mark_found.bits
+
+    pub last_part : x.byte ≡ None → LastBits line (record { bits = 31 - count_leading_zeros 32 x.next.held % 32; byte = None })
+    last_part w =
+        let f = mark_found in
+        let fit = e.fits in
+        let q : low_bits x.next.pending x.next.held ≡ s ++ (true ∷ zeros f.behind) =
+        ap (λ v. whole_bits v ++ pending_bits x.next) (sym w) ∙ f.with_mark in
+        let b = mark_below x.next.held x.next.pending fit.held_small s f.behind q in
+        let t = top_is x.next.held x.next.pending fit.held_small s f.behind q (omega (arith, fit.pending_small)) in
+        record {
+          bits = s;
+          left = f.left;
+          counted = omega (arith, b, t, fit.pending_small);
+          below = omega (arith, b, fit.pending_small);
+          fewer = λ z. omega (arith, b, fit.pending_small);
+          first = λ b z. absurd (let z : ◌≡◌ {A = ℕ} 0 1 = cc in omega arith);
+        }
+
+    module _ {b : ℕ} (small : b < 256) (w : x.byte ≡ Some b) where
+      abbrev word : ℕ
+      word = bit_or b (x.next.held * 256 % 4294967296)
+
+      abbrev bits : ℕ
+      bits = 31 - count_leading_zeros 32 word % 32
+
+      joins : low_bits 8 b ++ pending_bits x.next ≡ s ++ (true ∷ zeros mark_found.behind)
+      joins = ap (λ v. whole_bits v ++ pending_bits x.next) (sym w) ∙ mark_found.with_mark
+
+      counts : (bits ≡ length s) × (length s < 16)
+      counts =
+          let f = mark_found in
           let fit = e.fits in
-          let q : low_bits x.next.pending x.next.held ≡ s ++ (true ∷ zeros f.behind) =
-          ap (λ v. whole_bits v x.byte ++ pending_bits x.next) (sym w) ∙ f.with_mark in
-          let b = mark_below x.next.held x.next.pending fit.held_small s f.behind q in
-          let t = top_is x.next.held x.next.pending fit.held_small s f.behind q (omega (arith, fit.pending_small)) in
+          let held = x.next.held in
+          let p = x.next.pending in
+          let both = join 8 b held in
+          let is : word ≡ both = joined-or 8 b p held small fit.held_small (omega (arith, fit.pending_small)) in
+          let low : both < 2 ^ (8 + p) = subst (λ (n : ℕ). both < 2 ^ n) (add_comm p 8) (joined_small 8 b p held small fit.held_small) in
+          let g : low_bits (8 + p) both ≡ s ++ (true ∷ zeros f.behind) = sym (joined-bits 8 b p held small fit.held_small) ∙ joins in
+          let l = mark_below both (8 + p) low s f.behind g in
+          let top : count_leading_zeros 32 word ≡ 31 - length s =
+          ap (count_leading_zeros 32) is ∙ top_is both (8 + p) low s f.behind g (omega (arith, fit.pending_small)) in
+          (omega (arith, l, top, fit.pending_small), omega (arith, l, fit.pending_small))
+
+      pub last_fewer : bits < 8 → LastBits line (record { bits = bits; byte = None })
+      last_fewer n =
           record {
             bits = s;
-            left = f.left;
-            counted = omega (arith, b, t, fit.pending_small);
-            below = omega (arith, b, fit.pending_small);
-            first = λ g. absurd (omega (arith, b, fit.pending_small));
+            left = mark_found.left;
+            counted = counts.0;
+            below = counts.1;
+            fewer = λ z. omega (arith, counts.0);
+            first = λ b z. absurd (let z : ◌≡◌ {A = ℕ} 0 1 = cc in omega arith);
           }
 
-  module _ (small : x.byte < 256) where
-    abbrev word : ℕ
-    word = bit_or x.byte (x.next.held * 256 % 4294967296)
-
-    pub last_whole : x.whole ≡ true → ReadsLast r byte k (record { missing = x.missing; bits = 31 - count_leading_zeros 32 word % 32; byte = x.byte })
-    last_whole w = record { sound = counted; unsound = mark_missing }
-      where
-        counted : 8 ≤ x.missing → LastBits line (record { missing = x.missing; bits = 31 - count_leading_zeros 32 word % 32; byte = x.byte })
-        counted m =
-            let f = mark_found m in
-            let s = f.bits in
-            let fit = e.fits in
-            let b = x.byte in
-            let held = x.next.held in
-            let p = x.next.pending in
-            let t = true ∷ zeros f.behind in
-            let q : low_bits 8 b ++ low_bits p held ≡ s ++ t = ap (λ v. whole_bits v b ++ pending_bits x.next) (sym w) ∙ f.with_mark in
-            let both = join 8 b held in
-            let is : word ≡ both = joined-or 8 b p held small fit.held_small (omega (arith, fit.pending_small)) in
-            let low : both < 2 ^ (8 + p) = subst (λ (n : ℕ). both < 2 ^ n) (add_comm p 8) (joined_small 8 b p held small fit.held_small) in
-            let g : low_bits (8 + p) both ≡ s ++ t = sym (joined-bits 8 b p held small fit.held_small) ∙ q in
-            let l = mark_below both (8 + p) low s f.behind g in
-            let top : count_leading_zeros 32 word ≡ 31 - length s =
-            ap (count_leading_zeros 32) is ∙ top_is both (8 + p) low s f.behind g (omega (arith, fit.pending_small)) in
-            record {
-              bits = s;
-              left = f.left;
-              counted = omega (arith, l, top, fit.pending_small);
-              below = omega (arith, l, fit.pending_small);
-              first = λ n.
-                  ap value (sym (take-append-le 8 s t n) ∙ ap (take 8) (sym q) ∙ take_at (low_bits 8 b) (low_bits p held) 8 (length-low_bits 8 b))
-                  ∙ value-low_bits 8 b ∙ mod-eq_of_lt small;
-            }
+      pub last_whole : 8 ≤ bits → LastBits line (record { bits = bits; byte = Some b })
+      last_whole n =
+          let m : 8 ≤ length s = omega (arith, counts.0) in
+          let v : value (take 8 s) ≡ b =
+          ap value (sym (take-append-le 8 s (true ∷ zeros mark_found.behind) m) ∙ ap (take 8) (sym joins) ∙ take_at (low_bits 8 b) (pending_bits x.next) 8 (length-low_bits 8 b))
+          ∙ value-low_bits 8 b ∙ mod-eq_of_lt small in
+          record {
+            bits = s;
+            left = mark_found.left;
+            counted = counts.0;
+            below = counts.1;
+            fewer = λ z. absurd (let z : ◌≡◌ {A = ℕ} 0 1 = cc in omega arith);
+            first = λ c z. let q : b ≡ c = cc in (m, v ∙ q);
+          }

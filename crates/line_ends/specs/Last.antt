@@ -1,8 +1,9 @@
 -- The last bits of a line: what they give, the pending bits in front. Assumes nothing.
-use Rattle.std.specs.Prelude.{◌≡◌, ℕ, ◌<◌, ◌≤◌, Bool, List, length, take}
+use Rattle.std.specs.Prelude.{◌≡◌, ℕ, ◌<◌, ◌≤◌, Bool, List, length, take, Some, None, Result, Ok, Err}
 use Rattle.bits.specs.Bytes.{low_bits, value}
 use Rattle.frame.specs.Stuffing.{Unstuffed, clean, missing, unstuff}
 use Rattle.zero_removal.specs.declared.LineReader.{LineReader}
+use Rattle.zero_removal.specs.declared.MissingZero.{MissingZero}
 use Rattle.zero_removal.specs.Removal.{ones_before, in_front}
 use Rattle.zero_removal.specs.Reader.{pending_bits}
 use Rattle.line_ends.specs.declared.LastRead.{LastRead}
@@ -17,8 +18,14 @@ pub record LastBits (u : Unstuffed) (x : LastRead) : Type 0 where
   pub left : u ≡ clean bits
   pub counted : x.bits ≡ length bits
   pub below : length bits < 16
-  pub first : 8 ≤ length bits → value (take 8 bits) ≡ x.byte
+  pub fewer : x.byte ≡ None → length bits < 8
+  pub first : (b : ℕ) → x.byte ≡ Some b → (8 ≤ length bits) × (value (take 8 bits) ≡ b)
 
-pub record ReadsLast (r : LineReader) (byte k : ℕ) (x : LastRead) : Type 0 where
-  pub sound : 8 ≤ x.missing → LastBits (last_of r byte k) x
-  pub unsound : x.missing < 8 → last_of r byte k ≡ missing x.missing
+-- the place where a zero is missing
+pub record LacksLast (u : Unstuffed) (m : MissingZero) : Type 0 where
+  pub place_is : u ≡ missing m.0
+  pub place_small : m.0 < 8
+
+abbrev pub ReadsLast : LineReader → ℕ → ℕ → Result LastRead MissingZero → Type 0
+ReadsLast r byte k (Ok x) = LastBits (last_of r byte k) x
+ReadsLast r byte k (Err m) = LacksLast (last_of r byte k) m

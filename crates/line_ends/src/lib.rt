@@ -2,13 +2,12 @@
 // Every function takes every input; for a reader that fits `read_last` gives what the rule gives.
 #![tactic(auto)]
 
-// The place of a one where an inserted zero has to be, 8 where there is none; else how many bits of content and check are left, the
-// pending ones in front, and the byte that the first eight of them make, where there are as many.
+// How many bits of content and check are left, the pending ones in front, and the byte that the first eight of them make, where there
+// are as many.
 #[derive(Clone, Copy)]
 pub struct LastRead {
-    pub missing: u32,
     pub bits: u32,
-    pub byte: u8,
+    pub byte: Option<u8>,
 }
 
 mod flag;

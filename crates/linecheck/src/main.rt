@@ -5,81 +5,67 @@
 
 ghost use Rattle.std.specs.Prelude.{◌≤◌, length, IfOk};
 
-use block::{Block, BlockRead, EndSign, Method, Parity};
+use block::{Block, Link, Method, Parity, ReadRefusal};
 use std::io;
 use std::io::Read;
 
-#[derive(Clone, Copy)]
-enum Setting {
-    Known(Method, Parity),
-    Unknown,
-}
-
-fn with_parity(m: Method, letter: u8) -> Setting {
-    match letter {
-        b'e' => Setting::Known(m, Parity::Even),
-        b'o' => Setting::Known(m, Parity::Odd),
-        _ => Setting::Unknown,
-    }
-}
-
-fn settings_of(digit: u8, letter: u8) -> Setting {
+// The settings are characters, and a digit and a letter are no codes of the C calls.
+fn method_of(digit: u8) -> Option<Method> {
     match digit {
-        b'1' => with_parity(Method::Parity, letter),
-        b'2' => with_parity(Method::Matrix, letter),
-        b'3' => with_parity(Method::Cyclic, letter),
-        b'4' => with_parity(Method::CyclicAlternative, letter),
-        _ => Setting::Unknown,
+        b'1' => Some(Method::Parity),
+        b'2' => Some(Method::Matrix),
+        b'3' => Some(Method::Cyclic),
+        b'4' => Some(Method::CyclicAlternative),
+        _ => None,
     }
 }
 
-fn print_number(rt: &impl Print, n: usize) -> io::Result<()> {
-    print!(rt; " {n}")
+fn parity_of(letter: u8) -> Option<Parity> {
+    match letter {
+        b'e' => Some(Parity::Even),
+        b'o' => Some(Parity::Odd),
+        _ => None,
+    }
 }
 
-fn print_end(rt: &impl Print, e: EndSign) -> io::Result<()> {
-    match e {
-        EndSign::Etx => print!(rt; " 03"),
-        EndSign::Etb => print!(rt; " 17"),
-        EndSign::Us => print!(rt; " 1F"),
-    }
+// The link that the settings name, and the line behind them.
+fn settings_of(input: &[u8]) -> Option<(Link, &[u8])> {
+    let [digit, letter, line @ ..] = input else {
+        return None;
+    };
+    let method = method_of(*digit)?;
+    let parity = parity_of(*letter)?;
+    Some((Link { method, parity }, line))
 }
 
 fn print_taken(rt: &impl Print, b: Block) -> io::Result<()> {
-    let shape = b.shape;
-    let end = b.end;
-    print!(rt; "taken")?;
-    print_number(rt, block_answers::shape_number(shape))?;
-    print_end(rt, end)?;
-    print_number(rt, b.header)?;
-    print_number(rt, b.text)?;
-    print_number(rt, b.counted)
+    let shape = block_answers::shape_number(b.shape);
+    let end = u8::from(b.end);
+    let header = b.header;
+    let text = b.text;
+    let counted = b.counted;
+    print!(rt; "taken {shape} {end:02X} {header} {text} {counted}")
 }
 
-fn print_refused(rt: &impl Print, read: BlockRead) -> io::Result<()> {
-    let numbers = block_answers::block_read(read);
-    let values = numbers.values;
-    print!(rt; "refused")?;
-    print_number(rt, numbers.number as usize)?;
-    print_number(rt, values[0])
+fn print_refused(rt: &impl Print, refusal: ReadRefusal) -> io::Result<()> {
+    let numbers = block_answers::block_read(Err(refusal));
+    let number = numbers.number;
+    let value = numbers.values[0];
+    print!(rt; "refused {number} {value}")
 }
 
 fn run(rt: &impl Print, input: &[u8]) -> io::Result<()> {
-    if input.len() < 2 {
-        return print!(rt; "settings");
-    }
-    let Setting::Known(m, p) = settings_of(input[0], input[1]) else {
+    let Some((link, line)) = settings_of(input) else {
         return print!(rt; "settings");
     };
     let mut out = [0u8; 16384];
-    let read = block_reader::read_block(m, p, &input[2..], &mut out);
-    match read {
-        BlockRead::Taken(b) => print_taken(rt, b),
-        BlockRead::Refused(_) => print_refused(rt, read),
+    match block_reader::read_block(link, line, &mut out) {
+        Ok(b) => print_taken(rt, b),
+        Err(refusal) => print_refused(rt, refusal),
     }
 }
 
-// Reads until the buffer is full or the input ends.
+// Reads until the buffer is full or the input ends. The place moves on by what the input gave, so no `for` is plainer.
 fn read_full<R: Read>(input: &mut R, buffer: &mut [u8]) -> io::Result<usize>
     ensures { IfOk result (λ n. n ≤ length buffer.old) }
 {

@@ -28,17 +28,16 @@ pub enum NumberRefusal {
 }
 
 #[derive(Clone, Copy)]
-pub enum NumberAnswer {
+pub enum Verdict {
     New,
     Repeat,
     Lost,
-    Refused(NumberRefusal),
 }
 
 // The answer and the record after it.
 #[derive(Clone, Copy)]
 pub struct NumberResult {
-    pub answer: NumberAnswer,
+    pub answer: Result<Verdict, NumberRefusal>,
     pub after: NumberRecord,
 }
 
@@ -61,7 +60,7 @@ fn refused(held: NumberRecord, refusal: NumberRefusal) -> NumberResult
     ensures { outcome_of result ≡ outcome held.n held.w held.c (refused (number_of refusal)) }
 {
     NumberResult {
-        answer: NumberAnswer::Refused(refusal),
+        answer: Err(refusal),
         after: held,
     }
 }
@@ -77,7 +76,7 @@ fn judge(held: NumberRecord, m: u8, d: u8) -> NumberResult
     let c = held.c;
     if d == 0 {
         return NumberResult {
-            answer: NumberAnswer::New,
+            answer: Ok(Verdict::New),
             after: NumberRecord {
                 n,
                 w,
@@ -87,12 +86,12 @@ fn judge(held: NumberRecord, m: u8, d: u8) -> NumberResult
     }
     if d <= w {
         return NumberResult {
-            answer: NumberAnswer::Repeat,
+            answer: Ok(Verdict::Repeat),
             after: held,
         };
     }
     NumberResult {
-        answer: NumberAnswer::Lost,
+        answer: Ok(Verdict::Lost),
         after: held,
     }
 }

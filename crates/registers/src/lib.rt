@@ -6,6 +6,7 @@ ghost use Rattle.std.specs.Prelude.{◌≡◌};
 ghost use Rattle.bits.specs.Bytes.{low_bits, pack};
 ghost use Rattle.registers.specs.Register.{enter_by_table};
 
+#[tactic(auto, unfolding(crate::specs::Register::enter_by_table))]
 pub fn enter_byte(table: &[u32; 256], register: u32, byte: u8) -> u32
     ensures { result ≡ enter_by_table table.now register byte }
 {
@@ -13,20 +14,16 @@ pub fn enter_byte(table: &[u32; 256], register: u32, byte: u8) -> u32
     table[at as usize] ^ (register / 256)
 }
 
-// The bytes of a check in the order sent: its first bit is the low bit of the first byte.
+// The bytes of a check in the order sent: its first bit is the low bit of the first byte. Two functions, since the arrays differ in
+// length, and each is one call of the library.
 pub fn sent16(check: u16) -> [u8; 2]
     ensures { result ≡ pack (low_bits 16 check) }
 {
-    [(check % 256) as u8, (check / 256) as u8]
+    u16::to_le_bytes(check)
 }
 
 pub fn sent32(check: u32) -> [u8; 4]
     ensures { result ≡ pack (low_bits 32 check) }
 {
-    [
-        (check % 256) as u8,
-        (check / 256 % 256) as u8,
-        (check / 65536 % 256) as u8,
-        (check / 16777216) as u8,
-    ]
+    u32::to_le_bytes(check)
 }

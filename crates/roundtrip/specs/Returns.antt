@@ -1,9 +1,5 @@
 -- What writing, reading back and comparing answer, and what the line or frame and the output hold afterwards. Assumes nothing.
-use Rattle.std.specs.Prelude.{◌≡◌, ℕ, Bool, true, List}
-
--- a test is true just where a fact holds
-abbrev pub Decides : Bool → Type 0 → Type 0
-Decides test fact = (test ≡ true → fact) × (fact → test ≡ true)
+use Rattle.std.specs.Prelude.{ℕ, List}
 
 -- what a round trip answers in numbers: a refusal is the writer's or the reader's, by its number
 pub data Returned : Type 0 where

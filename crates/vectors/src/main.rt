@@ -3,10 +3,12 @@
 #![tactic(auto)]
 
 use block::Method;
+use cyclic::Cyclic;
 use cyclic3::Cyclic3;
 use cyclic4::Cyclic4;
 use cyclic5::Cyclic5;
 use cyclic6::Cyclic6;
+use registers::{sent16, sent32};
 use std::io;
 
 mod print;
@@ -16,26 +18,12 @@ fn print_check(rt: &impl Print, label: &str, check: u64, digits: usize) -> io::R
     println!(rt; "{label}{check:0digits$x}")
 }
 
-fn print_byte(rt: &impl Print, byte: u8) -> io::Result<()> {
-    print!(rt; " {byte:02x}")
-}
-
 // A check in the order sent.
-fn print_sent16(rt: &impl Print, label: &str, check: u16) -> io::Result<()> {
-    let sent = registers::sent16(check);
+fn print_sent(rt: &impl Print, label: &str, sent: &[u8]) -> io::Result<()> {
     print!(rt; "{label}")?;
-    print_byte(rt, sent[0])?;
-    print_byte(rt, sent[1])?;
-    print!(rt; "\n")
-}
-
-fn print_sent32(rt: &impl Print, label: &str, check: u32) -> io::Result<()> {
-    let sent = registers::sent32(check);
-    print!(rt; "{label}")?;
-    print_byte(rt, sent[0])?;
-    print_byte(rt, sent[1])?;
-    print_byte(rt, sent[2])?;
-    print_byte(rt, sent[3])?;
+    for byte in sent {
+        print!(rt; " {byte:02x}")?;
+    }
     print!(rt; "\n")
 }
 
@@ -75,21 +63,12 @@ fn published(rt: &impl Print) -> io::Result<()> {
 
 // Document 01's rows 11 to 13.
 fn checks(rt: &impl Print) -> io::Result<()> {
-    print_sent16(
-        rt,
-        "row 11, check of FF, method 5:",
-        Cyclic5::check_of(b"\xff"),
-    )?;
-    print_sent16(
-        rt,
-        "row 12, check of FF FF, method 5:",
-        Cyclic5::check_of(b"\xff\xff"),
-    )?;
-    print_sent32(
-        rt,
-        "row 13, check of FF, method 6:",
-        Cyclic6::check_of(b"\xff"),
-    )
+    let row_11 = sent16(Cyclic5::check_of(b"\xff"));
+    let row_12 = sent16(Cyclic5::check_of(b"\xff\xff"));
+    let row_13 = sent32(Cyclic6::check_of(b"\xff"));
+    print_sent(rt, "row 11, check of FF, method 5:", &row_11)?;
+    print_sent(rt, "row 12, check of FF FF, method 5:", &row_12)?;
+    print_sent(rt, "row 13, check of FF, method 6:", &row_13)
 }
 
 fn main(rt: HostRuntime) -> io::Result<()> {

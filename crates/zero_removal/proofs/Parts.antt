@@ -11,10 +11,11 @@ use Rattle.bits.specs.Bytes.{low_bits, bits_of}
 use Rattle.bits.proofs.Bytes.{length-low_bits, length-bits_of}
 use Rattle.zero_removal.specs.declared.LineReader.{LineReader}
 use Rattle.zero_removal.specs.declared.ByteRead.{ByteRead}
+use Rattle.zero_removal.specs.declared.MissingZero.{MissingZero}
 use Rattle.frame.specs.Stuffing.{Unstuffed, clean, missing, unstuff_bit, ones_after, unstuff}
 use Rattle.bits.proofs.WholeBytes.{drop-take}
-use Rattle.zero_removal.specs.Removal.{ones_through, ones_before, unstuff_part, in_front}
-use Rattle.zero_removal.specs.Reader.{data_of, ReaderFits, pending_bits, whole_bits, part_of, ReadsByte, left_at}
+use Rattle.zero_removal.specs.Removal.{ones_through, ones_before, unstuff_part, in_front, Lacks}
+use Rattle.zero_removal.specs.Reader.{data_of, ReaderFits, pending_bits, whole_bits, part_of, ReadsByte, left_at, first_reader}
 use Rattle.frame.proofs.Words.{bits_of_on, bits_of-drop}
 
 -- ---- bits in front
@@ -121,7 +122,7 @@ module _ (lent : List ℕ) (end : ℕ) (fits : end ≤ 8 * length lent) where
       ∙ ap₂ (λ (a c : List Bool). a ++ take (end - 8 * (i + 1)) c) (take_at byte rest 8 l) (drop_at byte rest 8 l)
       ∙ ap (λ c. byte ++ c) (sym (slice_rest (i + 1) h))
 
-  module _ (r : LineReader) (i : ℕ) (h : 8 * (i + 1) ≤ end) {x : ByteRead} (e : ReadsByte r (get_or lent i 0) x) where
+  module _ (r : LineReader) (i : ℕ) (h : 8 * (i + 1) ≤ end) where
     abbrev byte : ℕ
     byte = get_or lent i 0
 
@@ -140,18 +141,18 @@ module _ (lent : List ℕ) (end : ℕ) (fits : end ≤ 8 * length lent) where
         ∙ front_before (8 * i) (pending_bits r) (unstuff_part ones 0 (low_bits 8 byte)) rest
 
     -- a zero that is missing
-    pub byte_missing : x.missing < 8 → left_at bits end i r ≡ missing (8 * i + x.missing)
-    byte_missing m = in_parts ∙ ap (λ v. before (moved (8 * i) v) rest) (e.unsound m)
+    pub byte_missing : {m : MissingZero} → Lacks r.before byte m → left_at bits end i r ≡ missing (8 * i + m.0)
+    byte_missing l = in_parts ∙ ap (λ v. before (moved (8 * i) (in_front (pending_bits r) v)) rest) l.place_is
 
     -- else the bits that the byte gives
-    pub byte_turn : x.missing ≡ 8 → left_at bits end i r ≡ in_front (whole_bits x.whole x.byte) (left_at bits end (i + 1) x.next)
-    byte_turn m =
+    pub byte_turn : {x : ByteRead} → ReadsByte r byte x → left_at bits end i r ≡ in_front (whole_bits x.byte) (left_at bits end (i + 1) x.next)
+    byte_turn {x} e =
         let n : 8 * i + length (low_bits 8 byte) ≡ 8 * (i + 1) = omega (arith, length-low_bits 8 byte) in
         let next : rest ≡ unstuff (ones_before x.next.before) (8 * (i + 1)) (slice (8 * (i + 1)) end bits) =
-        ap₂ (λ o p. unstuff o p (slice (8 * (i + 1)) end bits)) (e.run_is m) n in
-        in_parts ∙ ap (λ v. before (moved (8 * i) v) rest) (e.sound m)
-        ∙ ap (in_front (whole_bits x.whole x.byte ++ pending_bits x.next)) next
-        ∙ sym (in_front-append (whole_bits x.whole x.byte) (pending_bits x.next) (unstuff (ones_before x.next.before) (8 * (i + 1)) (slice (8 * (i + 1)) end bits)))
+        ap₂ (λ o p. unstuff o p (slice (8 * (i + 1)) end bits)) e.run_is n in
+        in_parts ∙ ap (λ v. before (moved (8 * i) v) rest) e.bits_are
+        ∙ ap (in_front (whole_bits x.byte ++ pending_bits x.next)) next
+        ∙ sym (in_front-append (whole_bits x.byte) (pending_bits x.next) (unstuff (ones_before x.next.before) (8 * (i + 1)) (slice (8 * (i + 1)) end bits)))
 
 -- ---- how much data there is
 
@@ -196,9 +197,7 @@ byte-ahead lent end fits i r p h =
       length-slice (8 * i) end (bits_of lent) (omega (arith, length-bits_of lent)),
     )
 
--- behind the opening flag
-abbrev pub first_reader : LineReader
-first_reader = record { before = 0; held = 0; pending = 0 }
+-- ---- behind the opening flag
 
 pub first_fits : ReaderFits first_reader
 first_fits = record { pending_small = omega arith; held_small = lit< tt; before_small = omega arith }

@@ -1,8 +1,9 @@
 -- One byte received: each of the cases that code tells apart is right at every byte and at all that can stand before it, by one
 -- test that antt computes. Assumes nothing.
 use mathlib.Core.Path.{◌≡◌, refl, sym, ap, ◌∙◌, subst}
-use mathlib.Core.Bool.{Bool, false, cond, ◌&&◌}
+use mathlib.Core.Bool.{Bool, false, cond}
 use mathlib.Core.List.{List, [], ◌∷◌}
+use Rattle.std.specs.Prelude.{Result, Ok, Err}
 use Prim.Native.Nat.{ℕ, ◌+◌, ◌*◌, ◌-◌, ◌/◌, ◌%◌, ◌^◌, ◌<◌}
 use native.Mathlib.Omega.{arith}
 use borrow.Author.Tests.{eq-eqb, ne_eqb, ltb-true, leb-true}
@@ -12,13 +13,20 @@ use lib.Count.{count_trailing_zeros}
 use Rattle.bits.specs.Strings.{same}
 use Rattle.bits.specs.Bytes.{low_bits}
 use Rattle.bits.proofs.Strings.{same_sound}
-use Rattle.bits.proofs.Tests.{both_true, every, T_true}
+use Rattle.bits.proofs.Tests.{every, T_true}
 use Rattle.frame.specs.Stuffing.{Unstuffed, clean, missing}
 use Rattle.zero_insertion.specs.Insertion.{fives_in}
 use Rattle.zero_insertion.proofs.Tests.{all, all_each, of, every_of}
 use Rattle.zero_insertion.proofs.FiveOnes.{fives_behind, fives_joined}
 use Rattle.zero_removal.specs.declared.ReceivedByte.{ReceivedByte}
-use Rattle.zero_removal.specs.Removal.{ones_through, ones_before, unstuff_part, received_byte, Receives}
+use Rattle.zero_removal.specs.declared.MissingZero.{MissingZero}
+use Rattle.zero_removal.specs.Removal.{ones_through, ones_before, unstuff_part, Receives}
+
+abbrev pub received_byte : ℕ → ℕ → Result ReceivedByte MissingZero
+received_byte bits zeros = Ok (record { bits = bits; zeros = zeros })
+
+abbrev pub missing_zero : ℕ → Result ReceivedByte MissingZero
+missing_zero place = Err (record { 0 = place })
 
 -- ---- the numbers of the code, by the places of the bits behind five ones
 
@@ -36,8 +44,8 @@ module _ (byte behind : ℕ) where
   abbrev pub First : Type 0
   First = low ≡ bit_and byte to_zero
 
-  abbrev pub less_one : ReceivedByte
-  less_one = received_byte (bit_or low (high / 2)) 1 8
+  abbrev pub less_one : Result ReceivedByte MissingZero
+  less_one = received_byte (bit_or low (high / 2)) 1
 
   module _ (more : ℕ) where
     abbrev to_second : ℕ
@@ -50,15 +58,15 @@ module _ (byte behind : ℕ) where
     abbrev pub Second : Type 0
     Second = middle ≡ bit_and high to_second
 
-    abbrev pub less_two : ReceivedByte
-    less_two = received_byte (bit_or (bit_or low (middle / 2)) (bit_xor high middle / 4)) 2 8
+    abbrev pub less_two : Result ReceivedByte MissingZero
+    less_two = received_byte (bit_or (bit_or low (middle / 2)) (bit_xor high middle / 4)) 2
 
-    received_by : ReceivedByte
+    received_by : Result ReceivedByte MissingZero
     received_by =
-        cond (eqb behind 0) (received_byte byte 0 8)
+        cond (eqb behind 0) (received_byte byte 0)
         (cond (eqb low (bit_and byte to_zero))
-        (cond (eqb more 0) less_one (cond (eqb middle (bit_and high to_second)) less_two (received_byte byte 0 (count_trailing_zeros 32 more + 5))))
-        (received_byte byte 0 (count_trailing_zeros 32 behind)))
+        (cond (eqb more 0) less_one (cond (eqb middle (bit_and high to_second)) less_two (missing_zero (count_trailing_zeros 32 more + 5))))
+        (missing_zero (count_trailing_zeros 32 behind)))
 
 -- ---- the test
 
@@ -80,32 +88,28 @@ unfolding is_missing
 is_missing_sound (clean s) q h = absurd h
 is_missing_sound (missing p) q h = ap missing (eqb→eq p q h)
 
--- where a zero is missing, at its place; else by what is left
-given : ℕ → ℕ → ReceivedByte → Bool
-given run byte r =
-    cond (eqb r.missing 8)
-    (is_clean (unstuff_part run 0 (low_bits 8 byte)) (low_bits (8 - r.zeros) r.bits)
-    && eqb (ones_through run (low_bits 8 byte)) (ones_before (byte / 8)))
-    (is_missing (unstuff_part run 0 (low_bits 8 byte)) r.missing)
+-- by what is left, or by the place of a zero that is missing
+tests : ℕ → ℕ → Result ReceivedByte MissingZero → List Bool
+tests run byte (Ok r) =
+    is_clean (unstuff_part run 0 (low_bits 8 byte)) (low_bits (8 - r.zeros) r.bits)
+    ∷ eqb (ones_through run (low_bits 8 byte)) (ones_before (byte / 8)) ∷ leb r.zeros 2 ∷ ltb r.bits (2 ^ (8 - r.zeros)) ∷ []
+tests run byte (Err m) = is_missing (unstuff_part run 0 (low_bits 8 byte)) m.0 ∷ ltb m.0 8 ∷ []
 
-abbrev tests : ℕ → ℕ → ReceivedByte → List Bool
-tests run byte r = given run byte r ∷ leb r.zeros 2 ∷ ltb r.bits (2 ^ (8 - r.zeros)) ∷ leb r.missing 8 ∷ []
-
-tests_sound : (before byte : ℕ) (r : ReceivedByte) → T (all (tests (ones_before before) byte r)) → Receives before byte r
-unfolding given
-tests_sound before byte r t =
-    let a = all_each (tests (ones_before before) byte r) t in
-    let u = unstuff_part (ones_before before) 0 (low_bits 8 byte) in
-    let d = low_bits (8 - r.zeros) r.bits in
-    let ran = eqb (ones_through (ones_before before) (low_bits 8 byte)) (ones_before (byte / 8)) in
-    let ok : r.missing ≡ 8 → T (is_clean u d) × T ran = λ e. both_true (is_clean u d) ran (rw (eq-eqb r.missing 8 e) at a.0) in
+tests_sound : (before byte : ℕ) (r : Result ReceivedByte MissingZero) → T (all (tests (ones_before before) byte r)) → Receives before byte r
+unfolding tests
+tests_sound before byte (Ok r) t =
+    let a = all_each (tests (ones_before before) byte (Ok r)) t in
     record {
-      sound = λ e. is_clean_sound u d (ok e).0;
-      unsound = λ l. is_missing_sound u r.missing (rw (ne_eqb r.missing 8 (λ e. omega arith)) at a.0);
-      run_is = λ e. eqb→eq _ _ (ok e).1;
-      few = leb-true _ _ (T_true _ a.1.0);
-      bits_small = ltb-true _ _ (T_true _ a.1.1.0);
-      missing_le = leb-true _ _ (T_true _ a.1.1.1.0);
+      bits_are = is_clean_sound (unstuff_part (ones_before before) 0 (low_bits 8 byte)) (low_bits (8 - r.zeros) r.bits) a.0;
+      run_is = eqb→eq _ _ a.1.0;
+      few = leb-true _ _ (T_true _ a.1.1.0);
+      bits_small = ltb-true _ _ (T_true _ a.1.1.1.0);
+    }
+tests_sound before byte (Err m) t =
+    let a = all_each (tests (ones_before before) byte (Err m)) t in
+    record {
+      place_is = is_missing_sound (unstuff_part (ones_before before) 0 (low_bits 8 byte)) m.0 a.0;
+      place_small = ltb-true _ _ (T_true _ a.1.0);
     }
 
 right : ℕ → ℕ → ℕ → Bool
@@ -115,7 +119,7 @@ right_behind : ℕ → ℕ → Bool
 right_behind before run = every 256 (λ byte. of (bit_and (fives_behind 5 before byte) 255) (right run byte))
 
 right-all : T (every 32 (λ before. of (ones_before before) (right_behind before)))
-unfolding every all of right_behind right received_by given is_clean is_missing fives_in ones_through ones_before unstuff_part low_bits count_trailing_zeros
+unfolding every all of right_behind right received_by tests is_clean is_missing fives_in ones_through ones_before unstuff_part low_bits count_trailing_zeros
 right-all = tt
 
 -- ---- each case of the code
@@ -139,12 +143,12 @@ module _ (before byte : ℕ) (b : before < 32) (h : byte < 256) {f : ℕ} (is : 
       let test : ℕ → Type 0 = λ n. T (all (tests (ones_before before) byte (received_by byte behind (bit_and n 7)))) in
       tests_sound before byte _ (subst test (sym e) right_at)
 
-  pub received_whole : behind ≡ 0 → Receives before byte (received_byte byte 0 8)
+  pub received_whole : behind ≡ 0 → Receives before byte (received_byte byte 0)
   unfolding received_by
   received_whole e = simp (eq-eqb behind 0 e) at (received-right refl)
 
   module _ (n : behind ≡ 0 → ⊥) where
-    pub first_missing : (First byte behind → ⊥) → Receives before byte (received_byte byte 0 (count_trailing_zeros 32 behind))
+    pub first_missing : (First byte behind → ⊥) → Receives before byte (missing_zero (count_trailing_zeros 32 behind))
     unfolding received_by
     first_missing m = simp (ne_eqb behind 0 n, ne_eqb _ _ m) at (received-right refl)
 
@@ -157,7 +161,7 @@ module _ (before byte : ℕ) (b : before < 32) (h : byte < 256) {f : ℕ} (is : 
       received_one e = simp (ne_eqb behind 0 n, eq-eqb _ _ z, eq-eqb more 0 e) at (received-right s)
 
       module _ (k : more ≡ 0 → ⊥) where
-        pub second_missing : (Second byte behind more → ⊥) → Receives before byte (received_byte byte 0 (count_trailing_zeros 32 more + 5))
+        pub second_missing : (Second byte behind more → ⊥) → Receives before byte (missing_zero (count_trailing_zeros 32 more + 5))
         unfolding received_by
         second_missing m = simp (ne_eqb behind 0 n, eq-eqb _ _ z, ne_eqb more 0 k, ne_eqb _ _ m) at (received-right s)
 

@@ -1,5 +1,5 @@
 -- Reading the line by bytes: the bits that are pending, and what a byte of the line gives behind them. Assumes nothing.
-use Rattle.std.specs.Prelude.{◌≡◌, ℕ, ◌*◌, ◌^◌, ◌<◌, ◌≤◌, Bool, true, false, List, [], ◌++◌}
+use Rattle.std.specs.Prelude.{◌≡◌, ℕ, ◌*◌, ◌^◌, ◌<◌, Bool, List, [], ◌++◌, Option, Some, None}
 use Rattle.std.proofs.Math.Seq.{slice}
 use Rattle.bits.specs.Bytes.{low_bits}
 use Rattle.frame.specs.Stuffing.{Unstuffed, clean, missing, unstuff}
@@ -12,24 +12,26 @@ pub record ReaderFits (r : LineReader) : Type 0 where
   pub held_small : r.held < 2 ^ r.pending
   pub before_small : r.before < 32
 
+-- behind the opening flag
+abbrev pub first_reader : LineReader
+first_reader = record { before = 0; held = 0; pending = 0 }
+
 abbrev pub pending_bits : LineReader → List Bool
 pending_bits r = low_bits r.pending r.held
 
 -- the bits of a byte that was made whole
-abbrev pub whole_bits : Bool → ℕ → List Bool
-whole_bits true byte = low_bits 8 byte
-whole_bits false byte = []
+abbrev pub whole_bits : Option ℕ → List Bool
+whole_bits (Some byte) = low_bits 8 byte
+whole_bits None = []
 
 -- what a byte of the line gives, with the pending bits in front
 abbrev pub part_of : LineReader → ℕ → Unstuffed
 part_of r byte = in_front (pending_bits r) (unstuff_part (ones_before r.before) 0 (low_bits 8 byte))
 
 pub record ReadsByte (r : LineReader) (byte : ℕ) (x : ByteRead) : Type 0 where
-  pub sound : x.missing ≡ 8 → part_of r byte ≡ clean (whole_bits x.whole x.byte ++ pending_bits x.next)
-  pub unsound : x.missing < 8 → part_of r byte ≡ missing x.missing
-  pub run_is : x.missing ≡ 8 → ones_through (ones_before r.before) (low_bits 8 byte) ≡ ones_before x.next.before
+  pub bits_are : part_of r byte ≡ clean (whole_bits x.byte ++ pending_bits x.next)
+  pub run_is : ones_through (ones_before r.before) (low_bits 8 byte) ≡ ones_before x.next.before
   pub fits : ReaderFits x.next
-  pub missing_le : x.missing ≤ 8
 
 -- what the line still gives before the place `end`, from its byte at `index` on
 abbrev pub left_at : List Bool → ℕ → ℕ → LineReader → Unstuffed

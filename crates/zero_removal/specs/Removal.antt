@@ -1,8 +1,9 @@
 -- Zero removal in a part of the line, and in one byte of it. Assumes nothing.
-use Rattle.std.specs.Prelude.{◌≡◌, ℕ, ◌+◌, ◌-◌, ◌/◌, ◌^◌, ◌<◌, ◌≤◌, Bool, List, [], ◌∷◌, ◌++◌, eqb}
+use Rattle.std.specs.Prelude.{◌≡◌, ℕ, ◌+◌, ◌-◌, ◌/◌, ◌^◌, ◌<◌, ◌≤◌, Bool, List, [], ◌∷◌, ◌++◌, eqb, Result, Ok, Err}
 use Rattle.bits.specs.Bytes.{low_bits}
 use Rattle.frame.specs.Stuffing.{Unstuffed, clean, missing, unstuff_bit, ones_after}
 use Rattle.zero_removal.specs.declared.ReceivedByte.{ReceivedByte}
+use Rattle.zero_removal.specs.declared.MissingZero.{MissingZero}
 
 -- the ones in a row on the line after some bits
 unfoldable pub ones_through : ℕ → List Bool → ℕ
@@ -23,14 +24,18 @@ abbrev pub in_front : List Bool → Unstuffed → Unstuffed
 in_front d (clean s) = clean (d ++ s)
 in_front d (missing p) = missing p
 
-abbrev pub received_byte : ℕ → ℕ → ℕ → ReceivedByte
-received_byte bits zeros place = record { bits = bits; zeros = zeros; missing = place }
-
 -- what a byte gives behind five bits
-pub record Receives (before byte : ℕ) (r : ReceivedByte) : Type 0 where
-  pub sound : r.missing ≡ 8 → unstuff_part (ones_before before) 0 (low_bits 8 byte) ≡ clean (low_bits (8 - r.zeros) r.bits)
-  pub unsound : r.missing < 8 → unstuff_part (ones_before before) 0 (low_bits 8 byte) ≡ missing r.missing
-  pub run_is : r.missing ≡ 8 → ones_through (ones_before before) (low_bits 8 byte) ≡ ones_before (byte / 2 ^ 3)
+pub record Gives (before byte : ℕ) (r : ReceivedByte) : Type 0 where
+  pub bits_are : unstuff_part (ones_before before) 0 (low_bits 8 byte) ≡ clean (low_bits (8 - r.zeros) r.bits)
+  pub run_is : ones_through (ones_before before) (low_bits 8 byte) ≡ ones_before (byte / 2 ^ 3)
   pub few : r.zeros ≤ 2
   pub bits_small : r.bits < 2 ^ (8 - r.zeros)
-  pub missing_le : r.missing ≤ 8
+
+-- or the place where it lacks a zero
+pub record Lacks (before byte : ℕ) (m : MissingZero) : Type 0 where
+  pub place_is : unstuff_part (ones_before before) 0 (low_bits 8 byte) ≡ missing m.0
+  pub place_small : m.0 < 8
+
+abbrev pub Receives : ℕ → ℕ → Result ReceivedByte MissingZero → Type 0
+Receives before byte (Ok r) = Gives before byte r
+Receives before byte (Err m) = Lacks before byte m

@@ -3,16 +3,19 @@
 // reader that fits they give what the rule gives. They stand apart because in one they are not inlined.
 #![tactic(auto)]
 
-// A byte of the line as it is received: its bits without the inserted zeros, how many zeros those were, and the place of a one
-// where an inserted zero has to be, 8 where there is none.
+// A byte of the line as it is received: its bits without the inserted zeros, and how many zeros those were.
 #[derive(Clone, Copy)]
 pub struct ReceivedByte {
     pub bits: u32,
     pub zeros: u32,
-    pub missing: u32,
 }
 
-// The last five bits of the line, and the bits of content and check that make no byte yet: `pending` bits, held in a number.
+// The place in a byte of the line of a one where an inserted zero has to be.
+#[derive(Clone, Copy)]
+pub struct MissingZero(pub u32);
+
+// The last five bits of the line, and the bits of content and check that make no byte yet: `pending` bits, held in a number. Whether
+// they fit is no ghost field, which would ask more of the callers of `read_bits` and `read_last`: those take every input.
 #[derive(Clone, Copy)]
 pub struct LineReader {
     pub before: u32,
@@ -20,13 +23,10 @@ pub struct LineReader {
     pub pending: u32,
 }
 
-// The byte of content or check that a byte of the line makes whole, where it does; the place in the line's byte of a one where an
-// inserted zero has to be, 8 where there is none; and the reader after it.
+// The byte of content or check that a byte of the line makes whole, where it does, and the reader after it.
 #[derive(Clone, Copy)]
 pub struct ByteRead {
-    pub byte: u8,
-    pub whole: bool,
-    pub missing: u32,
+    pub byte: Option<u8>,
     pub next: LineReader,
 }
 

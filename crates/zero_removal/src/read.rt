@@ -1,20 +1,32 @@
 // The next byte of content and check, out of the bytes of the line.
-ghost use Rattle.zero_removal.specs.Removal.{Receives};
-ghost use Rattle.zero_removal.specs.Reader.{ReaderFits, ReadsByte};
+ghost use Rattle.std.specs.Prelude.{◌≡◌};
+ghost use Rattle.zero_removal.specs.Removal.{Gives};
+ghost use Rattle.zero_removal.specs.Reader.{ReaderFits, ReadsByte, first_reader};
 
 use crate::{ByteRead, LineReader, ReceivedByte};
 
+impl LineReader {
+    // Behind the opening flag: it ends in a zero, and nothing is pending.
+    pub fn new() -> LineReader
+        ensures { result ≡ first_reader }
+    {
+        LineReader {
+            before: 0,
+            held: 0,
+            pending: 0,
+        }
+    }
+}
+
 // The bits that a byte of the line gives as it is received, behind those that are pending.
 pub fn read_bits(r: LineReader, byte: u8, got: ReceivedByte) -> ByteRead
-    ensures { ReaderFits r → Receives r.before byte got → ReadsByte r byte result }
+    ensures { ReaderFits r → Gives r.before byte got → ReadsByte r byte result }
 {
     let before = (byte as u32) >> 3;
     let held = r.held | (got.bits << (r.pending % 32));
     if got.zeros <= r.pending {
         return ByteRead {
-            byte: (held % 256) as u8,
-            whole: true,
-            missing: got.missing,
+            byte: Some((held % 256) as u8),
             next: LineReader {
                 before,
                 held: held >> 8,
@@ -23,9 +35,7 @@ pub fn read_bits(r: LineReader, byte: u8, got: ReceivedByte) -> ByteRead
         };
     }
     ByteRead {
-        byte: 0,
-        whole: false,
-        missing: got.missing,
+        byte: None,
         next: LineReader {
             before,
             held,

@@ -1,43 +1,39 @@
 // One byte of the line without its inserted zeros.
-ghost use Rattle.std.specs.Prelude.{◌≡◌, ◌<◌};
-ghost use Rattle.zero_removal.specs.Removal.{received_byte, Receives};
+ghost use Rattle.std.specs.Prelude.{◌<◌};
+ghost use Rattle.zero_removal.specs.Removal.{Receives};
 
-use crate::ReceivedByte;
+use crate::{MissingZero, ReceivedByte};
 use zero_insertion::fives;
 
-fn received(bits: u32, zeros: u32, missing: u32) -> ReceivedByte
-    ensures { result ≡ received_byte bits zeros missing }
-{
-    ReceivedByte {
-        bits,
-        zeros,
-        missing,
-    }
-}
-
 // A byte as it is received behind five bits. In n ^ (n - 1) the bits up to the lowest one of n are ones.
-pub fn unstuff_byte(before: u32, byte: u8) -> ReceivedByte
+pub fn unstuff_byte(before: u32, byte: u8) -> Result<ReceivedByte, MissingZero>
     ensures { before < 32 → Receives before byte result }
 {
     let bits = byte as u32;
     let behind = fives(before | (bits << 5)) & 255;
     if behind == 0 {
-        return received(bits, 0, 8);
+        return Ok(ReceivedByte { bits, zeros: 0 });
     }
     let to_zero = behind ^ (behind - 1);
     let low = bits & (to_zero >> 1);
     if low != bits & to_zero {
-        return received(bits, 0, u32::trailing_zeros(behind));
+        return Err(MissingZero(u32::trailing_zeros(behind)));
     }
     let high = bits ^ low;
     let more = fives(high) & 7;
     if more == 0 {
-        return received(low | (high >> 1), 1, 8);
+        return Ok(ReceivedByte {
+            bits: low | (high >> 1),
+            zeros: 1,
+        });
     }
     let to_second = ((more ^ (more - 1)) << 5) | 31;
     let middle = high & (to_second >> 1);
     if middle != high & to_second {
-        return received(bits, 0, u32::trailing_zeros(more) + 5);
+        return Err(MissingZero(u32::trailing_zeros(more) + 5));
     }
-    received((low | (middle >> 1)) | ((high ^ middle) >> 2), 2, 8)
+    Ok(ReceivedByte {
+        bits: (low | (middle >> 1)) | ((high ^ middle) >> 2),
+        zeros: 2,
+    })
 }

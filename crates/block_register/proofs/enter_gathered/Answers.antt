@@ -1,60 +1,36 @@
--- `enter_gathered` meets its contract. The loop's invariant: what is left of the segment gives the whole. The measure is what is left. Assumes nothing.
-use mathlib.Core.Path.{refl, ap, ◌∙◌}
-use native.Mathlib.Omega.{arith}
-use mathlib.Core.Bool.{false}
+-- `enter_gathered` meets its contract: a piece is gathered and enters, or none is left. Assumes nothing.
+use Rattle.std.proofs.Common.{ap, ◌∙◌, ◌≤◌, length, arith}
+use Rattle.std.specs.Slice.Iter.{chunks_rest}
 use Rattle.generator16.specs.Register.{register_after}
-use Rattle.generator16.proofs.Registers.{after-nil, after-append}
-use Rattle.block_segments.proofs.Folding.{begin, whole}
-use Rattle.block_register.proofs.Pieces.{piece, gathered_size, gathered_fits, gathered_is, gathered_length}
+use Rattle.block_register.proofs.Pieces.{piece, no_piece, gathered_size, gathered_fits, gathered_is, gathered_length}
 use Rattle.block_register.proofs.enter_gathered.Goals as goal
 
-pub loop-i-init : goal.loop-i-init
-loop-i-init c =
-    let a = c.args in
-    let g = a.g in
-    (begin (register_after g) (after-nil g) (after-append g) false false a.start a.part.now, refl)
-
-pub slice_bounds-copy_kept-count : goal.slice_bounds-copy_kept-count
-slice_bounds-copy_kept-count c = omega (arith, c.piece_end-end.ensures.0)
-
-pub slice_bounds-copy_kept-start : goal.slice_bounds-copy_kept-start
-slice_bounds-copy_kept-start c = omega (arith, c.piece_end-end.ensures.0)
-
-pub slice_bounds-copy_kept-end : goal.slice_bounds-copy_kept-end
-slice_bounds-copy_kept-end c = omega (arith, c.piece_end-end.ensures.1)
-
-pub slice_bounds-copy_kept-end-in-loop-i : goal.slice_bounds-copy_kept-end-in-loop-i
-slice_bounds-copy_kept-end-in-loop-i c = omega (arith, c.loop-i.invariant.1)
-
 pub slice_bounds-gathered-end : goal.slice_bounds-gathered-end
-slice_bounds-gathered-end c =
-    let l = c.loop-i in
-    let p = c.piece_end-end in
-    gathered_fits c.args.part.now l.gathered l.i p.result l.invariant.1 p.ensures.0 p.ensures.2 c.copy_kept-n.ensures.0 c.copy_kept-n.ensures.1
+slice_bounds-gathered-end g c =
+    let l = c.loop-piece in
+    let short : length c.in-Some.piece.now ≤ 256 = omega (arith, c.in-Some.ensures.steps.1.1, l.invariant.size) in
+    gathered_fits c.in-Some.piece.now l.gathered l.invariant.room short c.copy_kept-n.ensures.0 c.copy_kept-n.ensures.1
 
 pub slice_bounds-enter_run-end : goal.slice_bounds-enter_run-end
-slice_bounds-enter_run-end c =
-    let l = c.loop-i in
-    let p = c.piece_end-end in
-    gathered_length c.args.part.now l.gathered l.i p.result l.invariant.1 p.ensures.0 p.ensures.2 c.copy_kept-n.ensures.0 c.copy_kept-n.ensures.1
+slice_bounds-enter_run-end g c =
+    let l = c.loop-piece in
+    let short : length c.in-Some.piece.now ≤ 256 = omega (arith, c.in-Some.ensures.steps.1.1, l.invariant.size) in
+    gathered_length c.in-Some.piece.now l.gathered l.invariant.room short c.copy_kept-n.ensures.0 c.copy_kept-n.ensures.1
 
-pub loop-i-smaller : goal.loop-i-smaller
-loop-i-smaller c =
-    let p = c.piece_end-end in
-    omega (arith, p.ensures.0, p.ensures.1)
-
-pub loop-i-preserved : goal.loop-i-preserved
-loop-i-preserved c =
-    let l = c.loop-i in
-    let p = c.piece_end-end in
-    let g = c.args.g in
-    let k = c.copy_kept-n in (
-      piece g l.invariant.0 p.ensures.0 p.ensures.1
-          (c.enter_run-register.ensures ∙ ap (register_after g l.register) (gathered_is c.args.part.now l.gathered l.i p.result l.invariant.1 p.ensures.0 p.ensures.2 k.ensures.0 k.ensures.1)),
-      gathered_size c.args.part.now l.gathered l.i p.result l.invariant.1 p.ensures.0 p.ensures.2 k.ensures.0 k.ensures.1,
-    )
+pub loop-piece-preserved : goal.loop-piece-preserved
+loop-piece-preserved g c =
+    let l = c.loop-piece in
+    let s = c.in-Some.ensures.steps in
+    let short : length c.in-Some.piece.now ≤ 256 = omega (arith, s.1.1, l.invariant.size) in
+    let k = c.copy_kept-n.ensures in
+    let p = g.G.Generator.generator in
+    record {
+      room = gathered_size c.in-Some.piece.now l.gathered l.invariant.room short k.0 k.1;
+      size = s.0 ∙ l.invariant.size;
+      left = piece p l.register c.in-Some.piece.now (chunks_rest c.next.new.self) l.invariant.left s.1.0 (c.enter_run-register.ensures ∙ ap (register_after p l.register) (gathered_is c.in-Some.piece.now l.gathered l.invariant.room short k.0 k.1));
+    }
 
 pub returns : goal.returns
-returns c =
-    let g = c.args.g in
-    whole (register_after g) (after-nil g) (after-append g) c.loop-i.invariant.0 c.loop-i-test.false
+returns g c =
+    let l = c.loop-piece in
+    no_piece g.G.Generator.generator l.register (chunks_rest l.piece-iterator) c.in-None.ensures.steps.1.0 l.invariant.left

@@ -1,15 +1,14 @@
--- `enter_gathered` meets its contract. The loop's invariant: what is left of the segment gives the whole. The measure is what is left. Assumes nothing.
-use mathlib.Core.Path.{◌≡◌}
-use Prim.Native.Nat.{◌-◌}
-use mathlib.Core.Bool.{false}
-use lib.ListN.{length}
+-- `enter_gathered` meets its contract. The loop's invariant: what is left of the segment gives the whole. Assumes nothing.
+use Rattle.std.proofs.Common.{◌≡◌, false, length}
+use Rattle.std.specs.Slice.Iter.{chunks_rest, chunks_size}
 use Rattle.generator16.specs.Register.{register_after}
-use Rattle.generator16.proofs.Registers.{after-nil, after-append}
-use Rattle.block_segments.proofs.Folding.{Folding}
+use Rattle.block_framing.specs.Framings.{kept_bytes}
 use Rattle.block_register.proofs.enter_gathered.Given as goal
 
-abbrev pub invariant-loop-i : goal.invariant-loop-i
-invariant-loop-i l = Folding (register_after l.g) (after-nil l.g) (after-append l.g) false false l.start l.part l.register false l.i × (length l.gathered ≡ 256)
-
-abbrev pub decreases-loop-i : goal.decreases-loop-i
-decreases-loop-i l = length l.part - l.i
+abbrev pub invariant-loop-piece : goal.invariant-loop-piece
+invariant-loop-piece g l =
+    record {
+      room : length l.gathered ≡ 256;
+      size : chunks_size l.piece-iterator ≡ 256;
+      left : register_after g.G.Generator.generator l.register (kept_bytes false false false (chunks_rest l.piece-iterator)) ≡ register_after g.G.Generator.generator l.start (kept_bytes false false false l.part);
+    }

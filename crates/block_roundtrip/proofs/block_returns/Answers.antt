@@ -2,46 +2,42 @@
 -- output give what is compared. Assumes nothing.
 use mathlib.Core.Path.{sym, ap}
 use lib.Seq.{length-take-le}
-use Rattle.block_roundtrip.proofs.Returns.{not_written, written_line, taken_back, taken_returns, refused_returns}
+use Rattle.block_roundtrip.proofs.Returns.{written_line, taken_back, taken_returns, refused_returns}
 use Rattle.block_roundtrip.proofs.block_returns.Goals as goal
 
 pub slice_bounds-read_block-end : goal.slice_bounds-read_block-end
 slice_bounds-read_block-end c =
-    let a = c.args in
-    let h = c.write_block-written.ensures in
-    let w = written_line a.method a.parity a.shape a.end a.header.now a.text.now a.line.now a.out.now _ h c.in-Written.is in
+    let l = c.args.link in
+    let s = c.args.parts.now in
+    let w = written_line l.method l.parity s.shape s.end s.header.now s.text.now c.args.line.now c.args.out.now _ c.write_block.ensures c.in-Ok.is in
     w.within
 
-pub slice_bounds-read_block-end-in-Written : goal.slice_bounds-read_block-end-in-Written
-slice_bounds-read_block-end-in-Written c =
-    let a = c.args in
-    let h = c.write_block-written.ensures in
-    let w = written_line a.method a.parity a.shape a.end a.header.now a.text.now a.line.now a.out.now _ h c.in-Written.is in
+pub slice_bounds-read_block-end-2 : goal.slice_bounds-read_block-end-2
+slice_bounds-read_block-end-2 c =
+    let l = c.args.link in
+    let s = c.args.parts.now in
+    let w = written_line l.method l.parity s.shape s.end s.header.now s.text.now c.args.line.now c.args.out.now _ c.write_block.ensures c.in-Ok.is in
     sym (length-take-le _ _ w.within)
 
 pub same_block-requires : goal.same_block-requires
 same_block-requires c =
-    let a = c.args in
-    let h = c.write_block-written.ensures in
-    let w = written_line a.method a.parity a.shape a.end a.header.now a.text.now a.line.now a.out.now _ h c.in-Written.is in
-    (taken_back a.method a.parity a.shape a.end a.header.now a.text.now a.line.now a.out.now w _ c.read_block-read.ensures c.in-Taken.is).room
+    let l = c.args.link in
+    let s = c.args.parts.now in
+    let w = written_line l.method l.parity s.shape s.end s.header.now s.text.now c.args.line.now c.args.out.now _ c.write_block.ensures c.in-Ok.is in
+    (taken_back l.method l.parity s.shape s.end s.header.now s.text.now c.args.line.now c.args.out.now w _ c.read_block.ensures c.in-Ok-read_block.is).room
 
-pub returns-in-Refused : goal.returns-in-Refused
-returns-in-Refused c =
-    let a = c.args in
-    not_written a.method a.parity a.shape a.end a.header.now a.text.now a.line.now a.out.now _ c.write_block-written.ensures c.in-Refused.is
+pub returns-in-Err-read_block : goal.returns-in-Err-read_block
+returns-in-Err-read_block c =
+    let l = c.args.link in
+    let s = c.args.parts.now in
+    let w = written_line l.method l.parity s.shape s.end s.header.now s.text.now c.args.line.now c.args.out.now _ c.write_block.ensures c.in-Ok.is in
+    refused_returns l.method l.parity s.shape s.end s.header.now s.text.now c.args.line.now c.args.out.now w _ c.read_block.ensures c.in-Err-read_block.is
+    (ap (λ z. z.output) c.write_block.ensures)
 
-pub returns-in-Taken : goal.returns-in-Taken
-returns-in-Taken c =
-    let a = c.args in
-    let h = c.write_block-written.ensures in
-    let w = written_line a.method a.parity a.shape a.end a.header.now a.text.now a.line.now a.out.now _ h c.in-Written.is in
-    taken_returns a.method a.parity a.shape a.end a.header.now a.text.now a.line.now a.out.now w _ c.read_block-read.ensures c.in-Taken.is c.same_block.ensures.1
-    c.compared.ensures (ap (λ z. z.output) h)
-
-pub returns-in-Refused-read : goal.returns-in-Refused-read
-returns-in-Refused-read c =
-    let a = c.args in
-    let h = c.write_block-written.ensures in
-    let w = written_line a.method a.parity a.shape a.end a.header.now a.text.now a.line.now a.out.now _ h c.in-Written.is in
-    refused_returns a.method a.parity a.shape a.end a.header.now a.text.now a.line.now a.out.now w _ c.read_block-read.ensures c.in-Refused-read.is (ap (λ z. z.output) h)
+pub returns : goal.returns
+returns c =
+    let l = c.args.link in
+    let s = c.args.parts.now in
+    let w = written_line l.method l.parity s.shape s.end s.header.now s.text.now c.args.line.now c.args.out.now _ c.write_block.ensures c.in-Ok.is in
+    taken_returns l.method l.parity s.shape s.end s.header.now s.text.now c.args.line.now c.args.out.now w _ c.read_block.ensures c.in-Ok-read_block.is c.same_block.ensures.1
+    (ap (λ z. z.output) c.write_block.ensures)

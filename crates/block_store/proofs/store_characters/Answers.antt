@@ -1,10 +1,11 @@
 -- `store_characters` meets its contract: the first 16 bytes and the rest, stored one after the other, are the whole. Assumes nothing.
+use Rattle.std.proofs.Common.{◌+◌, ◌-◌, arith, rules}
 use Rattle.block.specs.Characters.{sent}
-use Rattle.block_store.proofs.Stores.{stored_as, stored-append, map-parts}
+use Rattle.block_store.proofs.Stores.{first_at_once}
 use Rattle.block_store.proofs.store_characters.Goals as goal
 
 pub returns : goal.returns
 returns c =
     let a = c.args in
-    stored_as (map-parts (sent a.seven a.parity) a.part.now 16)
-    (stored-append (stored_as c.sixteen_sent-bytes.ensures c.store_sixteen-next.ensures) c.store_each-2.ensures)
+    let s = c.in-Some.ensures.cases in
+    first_at_once (sent a.seven a.parity) 16 a.part.now a.out.now a.at {m = a.at + 16 - a.at} {first = c.in-Some.first.now} {rest = c.in-Some.rest.now} {bytes = c.copy_from_slice.new.self} (search rules) (search rules) (omega arith) s.0 s.1 (search rules) c.store_each.ensures

@@ -1,15 +1,9 @@
--- `store_clear` meets its contract. The loop's invariant: what is left to store gives the whole. The measure is what is left.
--- Assumes nothing.
-use Prim.Native.Nat.{◌-◌}
-use mathlib.Core.List.{map}
-use lib.ListN.{length, drop}
+-- `store_clear` meets its contract. The loop's invariant: what is left to store gives the whole. Assumes nothing.
+use Rattle.std.proofs.Common.{map, drop}
 use Rattle.block.specs.Characters.{sent}
 use Rattle.block.specs.Write.{escaped}
 use Rattle.block_store.proofs.Stores.{Storing}
 use Rattle.block_store.proofs.store_clear.Given as goal
 
-abbrev pub invariant-loop-i : goal.invariant-loop-i
-invariant-loop-i l = Storing l.initial.out l.at (map (sent l.seven l.parity) (escaped l.part)) l.out l.next (map (sent l.seven l.parity) (escaped (drop l.i l.part)))
-
-abbrev pub decreases-loop-i : goal.decreases-loop-i
-decreases-loop-i l = length l.part - l.i
+abbrev pub invariant-loop-b : goal.invariant-loop-b
+invariant-loop-b l = Storing l.initial.out l.at (map (sent l.seven l.parity) (escaped l.part)) l.out l.next (map (sent l.seven l.parity) (escaped (drop l.b-index l.part)))

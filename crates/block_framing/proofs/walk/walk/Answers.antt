@@ -47,7 +47,7 @@ returns-in-OutOfPlace c =
 
 pub returns-in-DleOutOfPlace : goal.returns-in-DleOutOfPlace
 returns-in-DleOutOfPlace c =
-    ap (refusal 14) c.less.ensures
+    ap (refusal 14) c.saturating_sub.ensures
     ∙ turned c.loop-i.invariant c.loop-i-test.true c.character.ensures c.judge.ensures DleOutOfPlace c.in-DleOutOfPlace.is
 
 pub returns : goal.returns

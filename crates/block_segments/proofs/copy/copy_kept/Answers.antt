@@ -1,23 +1,31 @@
--- `copy_kept` meets its contract. The loop's invariant: what is left to store, laid over the output, gives the whole. The measure is what is left. Assumes nothing.
-use native.Mathlib.Omega.{arith}
-use Rattle.block_segments.proofs.Copying.{copying, copied, stored}
+-- `copy_kept` meets its contract: the next byte, kept or not, and none. Assumes nothing.
+use Rattle.std.proofs.Common.{false, refl, sym, ◌∙◌, arith}
+use lib.ListN.{length-map}
+use Rattle.block.specs.Characters.{character}
+use Rattle.block_framing.specs.Framings.{kept_bytes}
+use Rattle.block_segments.proofs.Copying.{copied, all_kept, stored}
+use Rattle.block_segments.proofs.copy.copy_kept.Goals.{then-keeps, else-keeps}
 use Rattle.block_segments.proofs.copy.copy_kept.Goals as goal
 
-pub loop-i-init : goal.loop-i-init
-loop-i-init c =
+pub loop-b-preserved : goal.loop-b-preserved
+loop-b-preserved c =
     let a = c.args in
-    copying a.clear a.seven a.part.now a.out.now
-
-pub put_if-n-requires : goal.put_if-n-requires
-put_if-n-requires c = omega (arith, c.loop-i.invariant.few, c.loop-i-test.true)
-
-pub loop-i-preserved : goal.loop-i-preserved
-loop-i-preserved c =
-    copied c.loop-i.invariant c.loop-i-test.true c.is_kept.ensures c.character.ensures c.put_if-n.ensures.0
-    c.put_if-n.ensures.1 c.put_if-n.auto.out c.next_behind-behind.ensures
-
-pub shape_of-out : goal.shape_of-out
-shape_of-out c = c.loop-i.invariant.size
+    let l = c.loop-b in
+    let f = character a.seven in
+    elim c.if-keeps.branch [
+      | then-keeps w ↦ record {
+        few = omega (arith, l.invariant.few, w.n-is, w.put-n.ensures.0);
+        left = copied f l.keeping a.part.now l.b-index l.invariant.left c.loop-b-test.true (sym w.if-keeps.true ∙ c.keeps.ensures.0) w.character.ensures c.keeps.ensures.1 (omega (arith, w.n-is, w.put-n.ensures.0)) (w.out-is ∙ w.put-n.ensures.1) c.if-keeps.auto.out;
+      }
+      | else-keeps w ↦ record {
+        few = omega (arith, l.invariant.few, w.n-is);
+        left = copied f l.keeping a.part.now l.b-index l.invariant.left c.loop-b-test.true (sym w.if-keeps.false ∙ c.keeps.ensures.0) refl c.keeps.ensures.1 (omega (arith, w.n-is)) w.out-is c.if-keeps.auto.out;
+      }
+    ]
 
 pub returns : goal.returns
-returns c = stored c.loop-i.invariant c.loop-i-test.false
+returns c =
+    let a = c.args in
+    let l = c.loop-b in
+    let whole = stored l.invariant.left (all_kept (character a.seven) l.keeping a.part.now l.b-index l.invariant.left c.loop-b-test.false) in
+    (whole.0 ∙ length-map (kept_bytes a.clear a.seven false a.part.now) (character a.seven), whole.1)

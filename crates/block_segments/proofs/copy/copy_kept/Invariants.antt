@@ -1,11 +1,14 @@
--- `copy_kept` meets its contract. The loop's invariant: what is left to store, laid over the output, gives the whole. The measure is what is left. Assumes nothing.
-use Prim.Native.Nat.{◌-◌}
-use lib.ListN.{length}
+-- `copy_kept` meets its contract. The loop's invariant: what is left to store, laid over the output, gives the whole. Assumes nothing.
+use Rattle.std.proofs.Common.{false, map, drop, ◌≤◌}
+use Rattle.block.specs.Characters.{character}
+use Rattle.block_framing.specs.Framings.{kept_bytes}
+use Rattle.block_segments.specs.Kept.{kept_of}
 use Rattle.block_segments.proofs.Copying.{Copying}
 use Rattle.block_segments.proofs.copy.copy_kept.Given as goal
 
-abbrev pub invariant-loop-i : goal.invariant-loop-i
-invariant-loop-i l = Copying l.clear l.seven l.part l.initial.out l.out l.n l.behind l.i
-
-abbrev pub decreases-loop-i : goal.decreases-loop-i
-decreases-loop-i l = length l.part - l.i
+abbrev pub invariant-loop-b : goal.invariant-loop-b
+invariant-loop-b l =
+    record {
+      few : l.n ≤ l.b-index;
+      left : Copying (map (character l.seven) (kept_bytes l.clear l.seven false l.part)) l.initial.out l.out (map (character l.seven) (kept_of l.keeping (drop l.b-index l.part))) l.n;
+    }

@@ -1,14 +1,9 @@
--- `sum_kept` meets its contract. The loop's invariant: what is left of the segment gives the whole. The measure is what is left. Assumes nothing.
-use Prim.Native.Nat.{◌-◌}
-use mathlib.Core.Bool.{true}
-use lib.ListN.{length}
+-- `sum_kept` meets its contract. The loop's invariant: what is left of the segment gives the whole. Assumes nothing.
+use Rattle.std.proofs.Common.{◌≡◌, true, false, drop}
 use Rattle.block.specs.Check.{xor_all}
-use Rattle.block.proofs.Sums.{xor_all-nil, xor_all-append}
-use Rattle.block_segments.proofs.Folding.{Folding}
+use Rattle.block_framing.specs.Framings.{kept_bytes}
+use Rattle.block_segments.specs.Kept.{kept_of}
 use Rattle.block_segments.proofs.sum.sum_kept.Given as goal
 
-abbrev pub invariant-loop-i : goal.invariant-loop-i
-invariant-loop-i l = Folding xor_all xor_all-nil xor_all-append l.clear true l.start l.part l.sum l.behind l.i
-
-abbrev pub decreases-loop-i : goal.decreases-loop-i
-decreases-loop-i l = length l.part - l.i
+abbrev pub invariant-loop-b : goal.invariant-loop-b
+invariant-loop-b l = xor_all l.sum (kept_of l.keeping (drop l.b-index l.part)) ≡ xor_all l.start (kept_bytes l.clear true false l.part)

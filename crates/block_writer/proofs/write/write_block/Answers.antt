@@ -1,18 +1,24 @@
 -- `write_block` meets its contract: what was asked of the parts is what the rule asks first. Assumes nothing.
+use Rattle.std.proofs.lemmas.Result.{err_from_is_err_and}
 use Rattle.block_writer.proofs.Writing.{parts_refused, parts_allowed, parts_written_lem}
 use Rattle.block_writer.proofs.write.write_block.Goals as goal
 
 pub write_line-requires : goal.write_line-requires
 write_line-requires c =
-    let a = c.args in
-    parts_allowed a.method a.parity a.shape a.end a.header.now a.text.now a.out.now c.ask_parts.result c.is_seven.ensures c.ask_parts.ensures c.in-Passed.is
+    let l = c.args.link in
+    let s = c.args.parts.now in
+    parts_allowed l.method l.parity s.shape s.end s.header.now s.text.now c.args.out.now c.ask_parts.result c.is_seven.ensures c.ask_parts.ensures c.in_ok-ask_parts.was
 
-pub returns-in-Passed : goal.returns-in-Passed
-returns-in-Passed c =
-    let a = c.args in
-    parts_written_lem a.method a.parity a.shape a.end a.header.now a.text.now a.out.now c.ask_parts.result c.is_seven.ensures c.ask_parts.ensures c.in-Passed.is c.write_line.ensures
+pub returns : goal.returns
+returns c =
+    let l = c.args.link in
+    let s = c.args.parts.now in
+    parts_written_lem l.method l.parity s.shape s.end s.header.now s.text.now c.args.out.now c.ask_parts.result c.is_seven.ensures c.ask_parts.ensures c.in_ok-ask_parts.was c.write_line.ensures
 
-pub returns-in-Refused : goal.returns-in-Refused
-returns-in-Refused c =
-    let a = c.args in
-    parts_refused a.method a.parity a.shape a.end a.header.now a.text.now a.out.now c.ask_parts.result c.is_seven.ensures c.ask_parts.ensures c.in-Refused.is
+pub returns-in_err-ask_parts : goal.returns-in_err-ask_parts
+returns-in_err-ask_parts c =
+    let l = c.args.link in
+    let s = c.args.parts.now in
+    let p = err_from_is_err_and c.from_residual.result c.from_residual.ensures.1 in
+    rw (p.1, p.2)
+    (parts_refused l.method l.parity s.shape s.end s.header.now s.text.now c.args.out.now c.ask_parts.result c.is_seven.ensures c.ask_parts.ensures c.in_err-ask_parts.was)

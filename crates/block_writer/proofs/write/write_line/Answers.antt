@@ -6,10 +6,10 @@ use Rattle.block_writer.proofs.write.write_line.Goals as goal
 pub returns-then-needed-out : goal.returns-then-needed-out
 returns-then-needed-out c =
     let a = c.args in
-    room_short (line_of a.method a.parity a.shape a.end a.header.now a.text.now) a.out.now (c.line_length-needed.ensures a.parity) c.if-needed-out.true
+    room_short (line_of a.link.method a.link.parity a.parts.now.shape a.parts.now.end a.parts.now.header.now a.parts.now.text.now) a.out.now (c.line_length-needed.ensures a.link.parity) c.if-needed-out.true
 
 pub returns : goal.returns
 returns c =
     let a = c.args in
-    room_enough (line_of a.method a.parity a.shape a.end a.header.now a.text.now) a.out.now (c.line_length-needed.ensures a.parity) c.if-needed-out.false
+    room_enough (line_of a.link.method a.link.parity a.parts.now.shape a.parts.now.end a.parts.now.header.now a.parts.now.text.now) a.out.now (c.line_length-needed.ensures a.link.parity) c.if-needed-out.false
     c.put_line.ensures

@@ -1,7 +1,7 @@
 -- `ask_length` meets its contract: questions 34 to 36 are put to the number of bits that the walk passed. Assumes nothing.
 use native.Mathlib.Omega.{arith}
 use Rattle.frame.specs.Frame.{parameters_of}
-use Rattle.frame_framing.proofs.Sizes.{sizes}
+use Rattle.frame.proofs.Sizes.{sizes}
 use Rattle.frame_framing.proofs.Length.{part_of-byte, no_content, too_long, within_limit}
 use Rattle.frame_framing.proofs.find.ask_length.Goals as goal
 

@@ -1,27 +1,21 @@
 -- `read_frame` meets its contract: a framing, then questions 37 and 38, then the content handed out. Assumes nothing.
-use mathlib.Core.Path.{ap, ◌∙◌}
 use native.Mathlib.Omega.{arith}
 use lib.ListN.{length}
 use borrow.Author.Tests.{not-true, not-false}
-use Rattle.bits.specs.Calls.{called}
-use Rattle.frame_framing.specs.Framing.{of_framing}
-use Rattle.frame_framing.proofs.Sizes.{sizes}
-use Rattle.frame_reader.specs.Steps.{of_unframed}
+use Rattle.frame.proofs.Sizes.{sizes}
 use Rattle.frame_reader.proofs.ReadFrame.{framing_found, no_framing, is_refused, wrong_check, content-bits, output_short, is_taken}
 use Rattle.frame_reader.proofs.read.read_frame.Goals as goal
 
 pub returns-in_default : goal.returns-in_default
 returns-in_default c =
     let a = c.args in
-    let q = c.in_default.is in
-    ap (λ n. called n a.out.now) (c.unframed.ensures ∙ ap (λ w. of_unframed (of_framing w)) q)
-    ∙ is_refused a.out.now (no_framing a.method a.lent.now a.bits c.find_framing-framing.ensures (length a.out.now) q)
+    is_refused a.out.now (no_framing a.method a.lent.now a.bits c.find_framing-framing.ensures (length a.out.now) c.unwrap_err.ensures)
 
 pub returns-then-not-f : goal.returns-then-not-f
 returns-then-not-f c =
     let a = c.args in
     let found = c.find_framing-framing.ensures in
-    let told = c.in-Found.is in
+    let told = c.in-Ok.is in
     let f = framing_found a.method a.lent.now a.bits found told in
     is_refused a.out.now (wrong_check f a.out.now (not-true _ c.if-not-f.true))
 
@@ -29,7 +23,7 @@ pub overflow_sub-needed : goal.overflow_sub-needed
 overflow_sub-needed c =
     let a = c.args in
     let found = c.find_framing-framing.ensures in
-    let told = c.in-Found.is in
+    let told = c.in-Ok.is in
     let f = framing_found a.method a.lent.now a.bits found told in
     omega (arith, f.counted, f.has_content)
 
@@ -37,7 +31,7 @@ pub returns-then-needed-out : goal.returns-then-needed-out
 returns-then-needed-out c =
     let a = c.args in
     let found = c.find_framing-framing.ensures in
-    let told = c.in-Found.is in
+    let told = c.in-Ok.is in
     let f = framing_found a.method a.lent.now a.bits found told in
     let right = not-false _ c.if-not-f.false in
     is_refused a.out.now (output_short f a.out.now right c.check_width.ensures c.if-needed-out.true)
@@ -46,7 +40,7 @@ pub hand_out-requires : goal.hand_out-requires
 hand_out-requires c =
     let a = c.args in
     let found = c.find_framing-framing.ensures in
-    let told = c.in-Found.is in
+    let told = c.in-Ok.is in
     let f = framing_found a.method a.lent.now a.bits found told in
     let right = not-false _ c.if-not-f.false in
     let n = content-bits f a.out.now right c.check_width.ensures in
@@ -57,7 +51,7 @@ pub returns : goal.returns
 returns c =
     let a = c.args in
     let found = c.find_framing-framing.ensures in
-    let told = c.in-Found.is in
+    let told = c.in-Ok.is in
     let f = framing_found a.method a.lent.now a.bits found told in
     let right = not-false _ c.if-not-f.false in
     is_taken f a.out.now right c.check_width.ensures c.if-needed-out.false c.hand_out.ensures

@@ -31,7 +31,7 @@ returns-then-not-is_flag-2 c =
 pub returns : goal.returns
 returns c =
     let a = c.args in
-    c.walk_closed.ensures
+    c.walk.ensures
     ∙ both_flags (parameters_of a.m) a.lent.now a.told (omega arith) c.if-told-lt16.false
     (sym c.is_flag.ensures ∙ c.if-not-is_flag.false)
     (sym c.is_flag-2.ensures ∙ c.if-not-is_flag-2.false)

@@ -1,8 +1,11 @@
 -- `read_last` meets its contract: the marked byte gives the last bits, and the mark behind them tells how many. Assumes nothing.
+use mathlib.Core.Path.{◌∙◌, ap, subst, sym}
 use Prim.Native.Nat.{◌%◌}
 use native.Mathlib.Omega.{arith}
-use borrow.Author.Tests.{not-true, not-false}
-use Rattle.line_ends.proofs.Marked.{mark_some, marked_small, read_marked, last_part, last_whole}
+use Rattle.std.proofs.Common.{Err, rules}
+use Rattle.std.proofs.lemmas.Result.{err_from_is_err_and}
+use Rattle.line_ends.specs.Last.{ReadsLast}
+use Rattle.line_ends.proofs.Marked.{mark_some, marked_small, read_marked, last_missing, last_part, last_fewer, last_whole}
 use Rattle.line_ends.proofs.last.read_last.Goals as goal
 
 pub nonzero_rem-marked : goal.nonzero_rem-marked
@@ -11,14 +14,26 @@ nonzero_rem-marked c = mark_some c.args.byte (c.args.k % 8) (omega arith)
 pub overflow_add-marked : goal.overflow_add-marked
 overflow_add-marked c = omega (arith, marked_small c.args.byte (c.args.k % 8) (omega arith))
 
-pub returns-then-not-read : goal.returns-then-not-read
-returns-then-not-read c fits h =
+pub returns-in_err-got : goal.returns-in_err-got
+returns-in_err-got c fits h =
     let a = c.args in
-    let e = c.read_bits-read.ensures fits (c.unstuff_byte.ensures fits.before_small) in
-    last_part a.r a.byte a.k h (read_marked a.byte a.k h (omega arith) e) (not-true _ c.if-not-read.true)
+    let p = err_from_is_err_and c.from_residual.result c.from_residual.ensures.1 in
+    subst (ReadsLast a.r a.byte a.k) (sym (p.1 ∙ ap Err p.2)) (last_missing a.r a.byte a.k h (c.in_err-got.ensures fits.before_small))
+
+pub returns-in_default : goal.returns-in_default
+returns-in_default c fits h =
+    let a = c.args in
+    let e = c.read_bits-read.ensures fits (c.in_ok-got.ensures fits.before_small) in
+    last_part a.r a.byte a.k h (read_marked a.byte a.k h e) c.in_default.is
+
+pub returns-then-bits-lt8 : goal.returns-then-bits-lt8
+returns-then-bits-lt8 c fits h =
+    let a = c.args in
+    let e = c.read_bits-read.ensures fits (c.in_ok-got.ensures fits.before_small) in
+    last_fewer a.r a.byte a.k h (read_marked a.byte a.k h e) (search rules) c.in-Some.is c.if-bits-lt8.true
 
 pub returns : goal.returns
 returns c fits h =
     let a = c.args in
-    let e = c.read_bits-read.ensures fits (c.unstuff_byte.ensures fits.before_small) in
-    last_whole a.r a.byte a.k h (read_marked a.byte a.k h (omega arith) e) (omega arith) (not-false _ c.if-not-read.false)
+    let e = c.read_bits-read.ensures fits (c.in_ok-got.ensures fits.before_small) in
+    last_whole a.r a.byte a.k h (read_marked a.byte a.k h e) (search rules) c.in-Some.is c.if-bits-lt8.false

@@ -8,37 +8,31 @@ use Rattle.zero_removal.proofs.unstuff.unstuff_byte.Goals as goal
 pub returns-then-behind-eq0 : goal.returns-then-behind-eq0
 returns-then-behind-eq0 c small =
     let a = c.args in
-    rw c.received.ensures (received_whole a.before a.byte small (omega arith) c.fives-behind.ensures c.if-behind-eq0.true)
+    received_whole a.before a.byte small (omega arith) c.fives-behind.ensures c.if-behind-eq0.true
 
 pub returns-then-low-bits : goal.returns-then-low-bits
 returns-then-low-bits c small =
     let a = c.args in
-    let f = c.fives-behind.ensures in
-    rw c.received-then-low-bits.ensures (first_missing a.before a.byte small (omega arith) f c.if-behind-eq0.false c.if-low-bits.true)
+    first_missing a.before a.byte small (omega arith) c.fives-behind.ensures c.if-behind-eq0.false c.if-low-bits.true
 
 pub returns-then-more-eq0 : goal.returns-then-more-eq0
 returns-then-more-eq0 c small =
     let a = c.args in
-    let f = c.fives-behind.ensures in
-    let g = c.fives-more.ensures in
-    rw c.received-then-more-eq0.ensures
-    (received_one a.before a.byte small (omega arith) f c.if-behind-eq0.false c.if-low-bits.false g c.if-more-eq0.true)
+    received_one a.before a.byte small (omega arith) c.fives-behind.ensures c.if-behind-eq0.false c.if-low-bits.false c.fives-more.ensures c.if-more-eq0.true
 
-pub overflow_add-more : goal.overflow_add-more
-overflow_add-more c = omega (arith, trailing_le 32 (bit_and c.fives-more.result 7))
+pub overflow_add-result : goal.overflow_add-result
+overflow_add-result c = omega (arith, trailing_le 32 (bit_and c.fives-more.result 7))
 
 pub returns-then-middle-high : goal.returns-then-middle-high
 returns-then-middle-high c small =
     let a = c.args in
     let f = c.fives-behind.ensures in
     let g = c.fives-more.ensures in
-    rw c.received-then-middle-high.ensures
-    (second_missing a.before a.byte small (omega arith) f c.if-behind-eq0.false c.if-low-bits.false g c.if-more-eq0.false c.if-middle-high.true)
+    second_missing a.before a.byte small (omega arith) f c.if-behind-eq0.false c.if-low-bits.false g c.if-more-eq0.false c.if-middle-high.true
 
 pub returns : goal.returns
 returns c small =
     let a = c.args in
     let f = c.fives-behind.ensures in
     let g = c.fives-more.ensures in
-    rw c.received-2.ensures
-    (received-two a.before a.byte small (omega arith) f c.if-behind-eq0.false c.if-low-bits.false g c.if-more-eq0.false c.if-middle-high.false)
+    received-two a.before a.byte small (omega arith) f c.if-behind-eq0.false c.if-low-bits.false g c.if-more-eq0.false c.if-middle-high.false

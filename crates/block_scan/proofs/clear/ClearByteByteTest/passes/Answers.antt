@@ -1,0 +1,6 @@
+-- `passes` meets its contract: what is not DLE is data of clear text. Assumes nothing.
+use Rattle.block_scan.proofs.Bytes.{clear_byte}
+use Rattle.block_scan.proofs.clear.ClearByteByteTest.passes.Goals as goal
+
+pub returns : goal.returns
+returns c = clear_byte c.args.self.seven c.args.b c.character.ensures

@@ -1,0 +1,11 @@
+-- `all_plain` meets its contract. The loop's invariant: where no byte was a sign or too high, every byte passed over is data.
+-- Assumes nothing.
+use Rattle.std.proofs.Common.{◌≡◌, true}
+use mathlib.Core.Bool.{not, ◌&&◌}
+use lib.Dec.{eqb}
+use Rattle.block.specs.Scan.{AllPass}
+use Rattle.block_scan.specs.Tests.{is_plain_byte}
+use Rattle.block_scan.proofs.plain.PlainByte.all_plain.Given as goal
+
+abbrev pub invariant-loop-b : goal.invariant-loop-b
+invariant-loop-b l = (l.below && not (eqb l.least 0)) ≡ true → AllPass (is_plain_byte l.self.seven l.self.low) l.sixteen 0 l.b-index

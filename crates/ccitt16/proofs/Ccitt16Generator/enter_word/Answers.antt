@@ -1,0 +1,19 @@
+-- `Ccitt16::enter_word` meets its contract: the map of words was tested at every single bit, and it keeps sums. Assumes nothing.
+use mathlib.Core.Path.{refl}
+use borrow.Author.Rules.{rules}
+use lib.Bits.{bit_xor, xor_lt}
+use mir.Facts.{Fits-bits}
+use Rattle.division.specs.Generators.{ccitt16}
+use Rattle.division.proofs.Generators.{ccitt16_generator}
+use Rattle.quotient.proofs.WordMaps.{number_fits, word_enters}
+use Rattle.quotient.proofs.Quotients.{ccitt_word, ccitt_word_lem}
+use Rattle.ccitt16.proofs.Ccitt16Generator.enter_word.Goals as goal
+
+pub overflow_cast-result : goal.overflow_cast-result
+overflow_cast-result c =
+    let a = c.args in
+    Fits-bits 16 tt (number_fits ccitt_word 64 (bit_xor a.register a.word) (xor_lt 64 a.register a.word (search rules) (search rules)))
+
+pub returns : goal.returns
+returns c =
+    word_enters 16 48 ccitt16 ccitt_word ccitt16_generator.width refl ccitt_word_lem c.args.register c.args.word (search rules) (search rules)

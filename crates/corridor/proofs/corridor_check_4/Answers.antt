@@ -1,6 +1,0 @@
--- `corridor_check_4` meets its contract, which is that of `check_of`. Assumes nothing.
-
-use Rattle.corridor.proofs.corridor_check_4.Goals as goal
-
-pub returns : goal.returns
-returns c = c.check_of.ensures

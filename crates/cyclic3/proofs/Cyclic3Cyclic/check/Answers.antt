@@ -1,0 +1,10 @@
+-- `Cyclic3::check` meets its contract: the register is inverted. Assumes nothing.
+use Prim.Native.Nat.{◌-◌, ◌^◌}
+use Rattle.bits.proofs.Bytes.{low_bits-invert}
+use Rattle.cyclic.specs.Check.{method3}
+use Rattle.cyclic.proofs.Methods.{all_ones}
+use Rattle.cyclic3.proofs.Cyclic3Cyclic.check.Goals as goal
+
+pub returns : goal.returns
+unfolding method3
+returns c = low_bits-invert 16 c.args.self.register (2 ^ 16 - 1) (all_ones 16)

@@ -1,0 +1,59 @@
+-- Comparing decides: parts are told from the start of a list one after the other, and a test that failed denies the whole. Assumes nothing.
+use mathlib.Core.Path.{◌≡◌, refl, sym, ap, ap₂, ◌∙◌}
+use Prim.Native.Nat.{ℕ, suc, ◌+◌, ◌-◌, ◌<◌}
+use native.Mathlib.Omega.{arith}
+use mathlib.Core.Bool.{Bool, true, false}
+use mathlib.Core.List.{List, [], ◌∷◌, ◌++◌}
+use lib.ListN.{length, take, drop, get_or}
+use lib.Seq.{take-add, take-take, take_at, drop_at}
+use Rattle.bits.specs.Bytes.{Bytes}
+use Rattle.std.specs.Bool.{Decides}
+use Rattle.roundtrip.specs.Returns.{Returned, returned}
+
+-- the elements of a slice are bytes
+pub bytes_of : (bs : List ℕ) → ((i : ℕ) → get_or bs i 0 < 256) → Bytes bs
+bytes_of [] small = tt
+bytes_of (b ∷ bs) small = (small 0, bytes_of bs (λ i. small (suc i)))
+
+-- an answer, a line and an output, each by the rule
+pub joined : {a a₁ : Returned} {l l₁ o o₁ : List ℕ} → a ≡ a₁ → l ≡ l₁ → o ≡ o₁ → returned a l o ≡ returned a₁ l₁ o₁
+joined a l o = cc
+
+not-both : {t : Bool} → t ≡ false → t ≡ true → ⊥
+not-both f e = let z : ◌≡◌ {A = ℕ} 0 1 = cc in omega arith
+
+pub denied : {A : Type 0} → (A → ⊥) → Decides false A
+denied never = (λ e. absurd (not-both refl e), λ a. absurd (never a))
+
+pub failed : {A : Type 0} {t : Bool} → Decides t A → t ≡ false → A → ⊥
+failed d f a = not-both f (d.1 a)
+
+module _ (head body out : List ℕ) {first : Bool} (d : Decides first (head ≡ take (length head) out)) where
+  abbrev Starts : Type 0
+  Starts = take (length head + length body) out ≡ head ++ body
+
+  halves : take (length head + length body) out ≡ take (length head) out ++ take (length body) (drop (length head) out)
+  halves = take-add (length head) (length body) out
+
+  first_half : Starts → head ≡ take (length head) out
+  first_half e =
+      sym (take_at head body (length head) refl) ∙ sym (ap (take (length head)) e) ∙ take-take (length head) (length head + length body) out (omega arith)
+
+  pub parts_differ : first ≡ false → Decides false Starts
+  parts_differ f = denied (λ e. failed d f (first_half e))
+
+  same_number : length head + length body - length head ≡ length body
+  same_number = omega arith
+
+  pub parts_same : first ≡ true → {second : Bool} → Decides second (body ≡ take (length head + length body - length head) (drop (length head) out))
+      → Decides second Starts
+  parts_same t s = (
+    λ e. halves ∙ sym (ap₂ ◌++◌ (d.0 t) (s.0 e ∙ ap (λ n. take n (drop (length head) out)) same_number)),
+    λ e. s.1 (second_half e ∙ sym (ap (λ n. take n (drop (length head) out)) same_number)),
+  )
+    where
+      second_half : Starts → body ≡ take (length body) (drop (length head) out)
+      second_half e =
+          sym (drop_at head body (length head) refl)
+          ∙ ap (drop (length head)) (sym e ∙ halves ∙ ap (λ z. z ++ take (length body) (drop (length head) out)) (sym (first_half e)))
+          ∙ drop_at head (take (length body) (drop (length head) out)) (length head) refl
