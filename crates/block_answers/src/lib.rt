@@ -4,23 +4,11 @@
 #![tactic(auto)]
 
 ghost use Rattle.std.specs.Prelude.{◌≡◌};
-ghost use Rattle.block.specs.Answers.{shape_number, read_number, read_value, write_number, write_value, of_read, of_written};
+ghost use Rattle.block.specs.Answers.{read_number, read_value, write_number, write_value, of_read, of_written};
 ghost use Rattle.answers.specs.Numbers.{block_values, read_numbers, value_numbers, written_numbers};
 
 use answers::{BlockNumbers, ValueNumbers, numbers};
-use block::{Block, ReadRefusal, Shape, WriteRefusal};
-
-pub fn shape_number(s: Shape) -> usize
-    ensures { result ≡ shape_number s }
-{
-    match s {
-        Shape::Header => 1,
-        Shape::Text => 2,
-        Shape::HeaderText => 3,
-        Shape::ClearText => 4,
-        Shape::HeaderClearText => 5,
-    }
-}
+use block::{Block, ReadRefusal, WriteRefusal};
 
 fn read_refusal(refusal: ReadRefusal) -> ValueNumbers
     ensures { result ≡ value_numbers (read_number refusal) (read_value refusal) }
@@ -43,11 +31,9 @@ fn read_refusal(refusal: ReadRefusal) -> ValueNumbers
 fn parts_of(b: Block) -> [usize; 5]
     ensures { result ≡ block_values (of_read (Ok b)) }
 {
-    let shape = b.shape;
-    let end = b.end;
     [
-        shape_number(shape),
-        u8::from(end) as usize,
+        usize::from(b.shape),
+        u8::from(b.end) as usize,
         b.header,
         b.text,
         b.counted,

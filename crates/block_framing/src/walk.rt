@@ -1,5 +1,5 @@
 // The walk over a line, questions 13 to 15, and the segments that it finds.
-ghost use Rattle.std.specs.Prelude.{◌≡◌, ◌≤◌, length};
+ghost use Rattle.std.specs.Prelude.{◌≡◌, ◌≤◌, length, Some, None};
 ghost use Rattle.block.specs.Walk as rule;
 ghost use Rattle.block_framing.specs.Framings.{start_of, of_walk};
 ghost use Rattle.block_framing.specs.Walks as walks;
@@ -34,6 +34,77 @@ impl LeftOuts {
     }
 }
 
+// The segments of a line that ends in its header.
+#[tactic(auto, unfolding(crate::specs::Walks::segments_at))]
+fn header_alone(start: usize, end: EndSign, t: LeftOuts, after: usize) -> Segments
+    requires { start ≤ 16384 }
+    ensures { result ≡ walks.segments_at start 0 end t after }
+{
+    let counted = after.saturating_sub(t.all);
+    let last = after.saturating_sub(1);
+    Segments {
+        shape: shape_at(0, t.inner.is_some()),
+        end,
+        head: start + 1,
+        inner: last,
+        body: last,
+        tail: last,
+        header: counted.saturating_sub(1),
+        text: 0,
+        counted,
+        after,
+    }
+}
+
+// The segments of a line with a text and no header, `all` of its bytes left out.
+fn text_alone(start: usize, signs: usize, end: EndSign, all: usize, after: usize) -> Segments
+    requires { (start ≤ 16384) × (signs ≤ 2) }
+    ensures { result ≡ walks.text_at start signs end None all after }
+{
+    let counted = after.saturating_sub(all);
+    let body = start + signs;
+    Segments {
+        shape: shape_at(signs, false),
+        end,
+        head: body,
+        inner: body,
+        body,
+        tail: after.saturating_sub(signs),
+        header: 0,
+        text: counted.saturating_sub(1),
+        counted,
+        after,
+    }
+}
+
+// The segments of a line with a header and a text, `all` of its bytes left out.
+fn header_and_text(
+    start: usize,
+    signs: usize,
+    end: EndSign,
+    inner: FirstInnerStart,
+    all: usize,
+    after: usize,
+) -> Segments
+    requires { (inner.at ≤ 16384) × (start ≤ 16384) × (signs ≤ 2) }
+    ensures { result ≡ walks.text_at start signs end (Some inner) all after }
+{
+    let counted = after.saturating_sub(all);
+    let header = inner.at.saturating_sub(inner.before);
+    Segments {
+        shape: shape_at(signs, true),
+        end,
+        head: start + 1,
+        inner: inner.at,
+        body: inner.at + signs,
+        tail: after.saturating_sub(signs),
+        header,
+        text: counted.saturating_sub(header + signs + 1),
+        counted,
+        after,
+    }
+}
+
 // The segments of a line with its start at the place `start` and so many signs before its text, whose end sign stands behind
 // `after` bytes.
 #[tactic(auto, unfolding(crate::specs::Walks::segments_at))]
@@ -41,51 +112,12 @@ fn segments_at(start: usize, signs: usize, end: EndSign, t: LeftOuts, after: usi
     requires { (walks.Small t 16384) × (start ≤ 16384) × (signs ≤ 2) }
     ensures { result ≡ walks.segments_at start signs end t after }
 {
-    let shape = shape_at(signs, t.inner.is_some());
-    let counted = after.saturating_sub(t.all);
     if signs == 0 {
-        let last = after.saturating_sub(1);
-        return Segments {
-            shape,
-            end,
-            head: start + 1,
-            inner: last,
-            body: last,
-            tail: last,
-            header: counted.saturating_sub(1),
-            text: 0,
-            counted,
-            after,
-        };
+        return header_alone(start, end, t, after);
     }
-    let tail = after.saturating_sub(signs);
-    let Some(inner) = t.inner else {
-        let body = start + signs;
-        return Segments {
-            shape,
-            end,
-            head: body,
-            inner: body,
-            body,
-            tail,
-            header: 0,
-            text: counted.saturating_sub(1),
-            counted,
-            after,
-        };
-    };
-    let header = inner.at.saturating_sub(inner.before);
-    Segments {
-        shape,
-        end,
-        head: start + 1,
-        inner: inner.at,
-        body: inner.at + signs,
-        tail,
-        header,
-        text: counted.saturating_sub(header + signs + 1),
-        counted,
-        after,
+    match t.inner {
+        None => text_alone(start, signs, end, t.all, after),
+        Some(inner) => header_and_text(start, signs, end, inner, t.all, after),
     }
 }
 

@@ -25,13 +25,7 @@ pub fn block_returns(
 ) -> Result<bool, RoundTripError<WriteRefusal, ReadRefusal>>
     ensures { returned (of_block_return result) line.new out.new ≡ block_returns link.method link.parity parts.now.shape parts.now.end parts.now.header.now parts.now.text.now line.old out.old }
 {
-    let n = match write_block(link, parts, &mut *line) {
-        Ok(n) => n,
-        Err(refusal) => return Err(RoundTripError::NotWritten(refusal)),
-    };
-    let b = match read_block(link, &line[..n], &mut *out) {
-        Ok(b) => b,
-        Err(refusal) => return Err(RoundTripError::NotRead(refusal)),
-    };
+    let n = write_block(link, parts, &mut *line).map_err(RoundTripError::NotWritten)?;
+    let b = read_block(link, &line[..n], &mut *out).map_err(RoundTripError::NotRead)?;
     Ok(same_block(b, parts, out))
 }

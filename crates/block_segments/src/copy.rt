@@ -38,6 +38,7 @@ fn copy_whole(seven: bool, part: &[u8], out: &mut [u8])
     ensures { out.new ≡ sets out.old 0 (map (rule.character seven) part.now) }
 {
     let fits = &part[..part.len().min(out.len())];
+    // By an index: with `zip` over `iter_mut` the proof did not close, since that loop's state does not hold the output.
     for (i, b) in fits.iter().enumerate() {
         out[i] = character(seven, *b);
     }

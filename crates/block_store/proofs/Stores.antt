@@ -10,6 +10,8 @@ use borrow.Author.Tests.{ltb-true, ltb-false}
 use lib.ListN.{length, get_or, set, take, drop, length-set, length-map, length-take, take-append-drop, drop_of_length-le}
 use borrow.Rule.Slice.PartMut.{put_mid}
 use lib.Seq.{drop-cons, drop-drop, set_out, sets, sets-eq, length-sets}
+use Rattle.std.proofs.lemmas.List.{take_more_set}
+use Rattle.std.proofs.lemmas.Grind.{take_at_read}
 use Rattle.block.specs.Signs.{DLE}
 use Rattle.block.specs.Write.{doubled, escaped}
 use Rattle.block.proofs.Lists.{map-append, sets_append}
@@ -109,3 +111,12 @@ module _ (f : ℕ → ℕ) (part : List ℕ) (i : ℕ) where
   pub escaped_out : length part ≤ i → map f (escaped (drop i part)) ≡ []
   unfolding escaped
   escaped_out h = ap (λ l. map f (escaped l)) (drop_of_length-le part h)
+
+-- ---- bytes changed in place
+
+pub changed-next : (f : ℕ → ℕ) (xs ys : List ℕ) (i : ℕ) {b : ℕ} → i < length xs → i < length ys → b ≡ f (get_or xs i 0)
+    → get_or xs i 0 ≡ get_or ys i 0 → take i xs ≡ map f (take i ys) → take (i + 1) (set xs i b) ≡ map f (take (i + 1) ys)
+changed-next f xs ys i {b} hx hy made same before =
+    take_more_set xs i b hx
+    ∙ ap₂ (λ l x. l ++ x ∷ []) before (made ∙ ap f same)
+    ∙ sym (ap (map f) ((take_at_read ys i 0 hy).1) ∙ map-append f (take i ys) (get_or ys i 0 ∷ []))

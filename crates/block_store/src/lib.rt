@@ -26,19 +26,20 @@ pub fn store_each(seven: bool, parity: Parity, part: &[u8], out: &mut [u8], at: 
     ensures { Stored out.old at (map (characters.sent seven parity) part.now) out.new result }
 {
     let fits = &part[..part.len().min(out.len().saturating_sub(at))];
+    // By an index: with `zip` over `iter_mut` the proof did not close, since that loop's state does not hold the output.
     for (i, b) in fits.iter().enumerate() {
         out[at + i] = sent(seven, parity, *b);
     }
     at + fits.len()
 }
 
-// The 16 bytes by which 16 characters are sent. The compiler makes all 16 at once.
+// The 16 bytes by which 16 characters are sent. The compiler makes all 16 at once, which it does not with an array's `map`.
 fn sixteen_sent(seven: bool, parity: Parity, part: &[u8; 16]) -> [u8; 16]
     ensures { result ≡ map (characters.sent seven parity) part.now }
 {
-    let mut bytes = [0u8; 16];
-    for (i, b) in part.iter().enumerate() {
-        bytes[i] = sent(seven, parity, *b);
+    let mut bytes = *part;
+    for byte in bytes.iter_mut() {
+        *byte = sent(seven, parity, *byte);
     }
     bytes
 }

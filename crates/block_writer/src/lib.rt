@@ -3,6 +3,18 @@
 // line.
 #![tactic(auto)]
 
+ghost use Rattle.std.specs.Prelude.{◌≤◌, length};
+
+use block::Parts;
+
+// The parts of a block that passed question 5, which leaves each of them at most 4,096 bytes.
+#[derive(Clone, Copy)]
+pub(crate) struct ShortParts<'a> {
+    pub parts: &'a Parts<'a>,
+    ghost header_small: { length parts.now.header.now ≤ 4096 },
+    ghost text_small: { length parts.now.text.now ≤ 4096 },
+}
+
 mod length;
 mod write;
 

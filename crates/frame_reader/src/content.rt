@@ -14,13 +14,12 @@ pub(crate) fn hand_out(lent: &[u8], end: usize, n: usize, out: &mut [u8])
     let mut r = LineReader::new();
     // A byte of the line gives a byte or none, so the place in the output goes its own way.
     let mut i: usize = 0;
-    for index in 1..end / 8 {
+    for byte in &lent[1..end / 8] {
         if i == n {
             return;
         }
-        let byte = lent[index];
-        let got = unstuff_byte(r.before, byte).unwrap();
-        let read = read_bits(r, byte, got);
+        let got = unstuff_byte(r.before, *byte).unwrap();
+        let read = read_bits(r, *byte, got);
         r = read.next;
         if let Some(whole) = read.byte {
             out[i] = whole;

@@ -26,13 +26,7 @@ pub fn frame_returns(
 ) -> Result<bool, RoundTripError<WriteRefusal, ReadRefusal>>
     ensures { returned (of_frame_return result) frame.new out.new ≡ frame_returns (parameters_of method) content.now frame.old out.old }
 {
-    let bits = match write_frame(method, content, &mut *frame) {
-        Ok(bits) => bits,
-        Err(refusal) => return Err(RoundTripError::NotWritten(refusal)),
-    };
-    let bytes = match read_frame(method, bits, frame, &mut *out) {
-        Ok(bytes) => bytes,
-        Err(refusal) => return Err(RoundTripError::NotRead(refusal)),
-    };
+    let bits = write_frame(method, content, &mut *frame).map_err(RoundTripError::NotWritten)?;
+    let bytes = read_frame(method, bits, frame, &mut *out).map_err(RoundTripError::NotRead)?;
     Ok(same_content(bytes, content, out))
 }

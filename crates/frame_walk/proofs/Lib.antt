@@ -1,3 +1,4 @@
+pub mod Mapped
 pub mod Passing
 pub mod Register
 pub mod Flags

@@ -36,10 +36,7 @@ impl Line<'_> {
     {
         let end = self.end;
         let index = end / 8;
-        let left = match read_last(r, self.lent[index], end % 8) {
-            Ok(left) => left,
-            Err(at) => return Err(zero_missing(index, at)),
-        };
+        let left = read_last(r, self.lent[index], end % 8).map_err(|at| zero_missing(index, at))?;
         let count = count + left.bits as usize;
         let Some(byte) = left.byte else {
             return Ok(Walk {
@@ -63,12 +60,10 @@ impl Line<'_> {
         let mut register = start;
         let mut count: usize = 0;
         let mut r = LineReader::new();
+        // The index tells the place of a missing zero too, so the loop goes over indices and not over the bytes.
         for index in 1..end / 8 {
             let byte = lent[index];
-            let got = match unstuff_byte(r.before, byte) {
-                Ok(got) => got,
-                Err(at) => return Err(zero_missing(index, at)),
-            };
+            let got = unstuff_byte(r.before, byte).map_err(|at| zero_missing(index, at))?;
             let read = read_bits(r, byte, got);
             r = read.next;
             if let Some(whole) = read.byte {

@@ -18,15 +18,10 @@ impl Line<'_> {
     fn walk(self, m: FrameMethod) -> Result<Walk, ReadRefusal>
         ensures { of_walk result ≡ walk_zeros (parameters_of m) self.entry.end (unstuff 0 8 (slice 8 self.entry.end (bits_of self.entry.lent.now))) }
     {
+        // Only what differs stands in the arms: the table and the start of the method.
         match m {
-            FrameMethod::Cyclic16 => {
-                let table = ccitt16();
-                self.pass(&table, Cyclic5::START as u32)
-            }
-            FrameMethod::Cyclic32 => {
-                let table = ieee32();
-                self.pass(&table, Cyclic6::START)
-            }
+            FrameMethod::Cyclic16 => self.pass(&ccitt16(), Cyclic5::START as u32),
+            FrameMethod::Cyclic32 => self.pass(&ieee32(), Cyclic6::START),
         }
     }
 }

@@ -56,6 +56,7 @@ pub fn write_frame(
     if content.len() > limit(method) {
         return Err(WriteRefusal::TooLong);
     }
+    // Each arm keeps the bytes of its check: the borrow checker takes no slice, chosen here, of an array that only one arm has.
     match method {
         FrameMethod::Cyclic16 => {
             let check = sent16(Cyclic5::check_of(content));

@@ -39,7 +39,7 @@ fn settings_of(input: &[u8]) -> Option<(Link, &[u8])> {
 }
 
 fn print_taken(rt: &impl Print, b: Block) -> io::Result<()> {
-    let shape = block_answers::shape_number(b.shape);
+    let shape = usize::from(b.shape);
     let end = u8::from(b.end);
     let header = b.header;
     let text = b.text;

@@ -27,6 +27,20 @@ pub enum NumberRefusal {
     Received,
 }
 
+// Document 01's number of a refusal.
+impl From<NumberRefusal> for u32 {
+    ghost from_gives = { λ refusal number. number ≡ number_of refusal };
+
+    fn from(refusal: NumberRefusal) -> u32 {
+        match refusal {
+            NumberRefusal::Modulus => 41,
+            NumberRefusal::Window => 51,
+            NumberRefusal::Awaited => 42,
+            NumberRefusal::Received => 43,
+        }
+    }
+}
+
 #[derive(Clone, Copy)]
 pub enum Verdict {
     New,

@@ -8,18 +8,17 @@ fn print_refused(rt: &impl Print, label: &str, number: u32, value: usize) -> io:
     println!(rt; "{label} refused {number} {value}")
 }
 
-// What was written, with the word for it: the length of a line, or the bits of a frame.
+// What was written, with the word for it: the length of a line, or the bits of a frame. A refusal has its numbers.
 pub fn print_written(
     rt: &impl Print,
     label: &str,
     word: &str,
-    written: ValueNumbers,
+    written: Option<usize>,
+    numbers: ValueNumbers,
 ) -> io::Result<()> {
-    let value = written.value;
-    if written.number == 0 {
-        println!(rt; "{label} {word} {value}")
-    } else {
-        print_refused(rt, label, written.number, value)
+    match written {
+        Some(value) => println!(rt; "{label} {word} {value}"),
+        None => print_refused(rt, label, numbers.number, numbers.value),
     }
 }
 

@@ -1,31 +1,36 @@
 -- `frame_returns` meets its contract: write_frame's answer and output give the frame that read_frame reads back, and its answer and
 -- output give what is compared. Assumes nothing.
-use mathlib.Core.Path.{ap}
+use mathlib.Core.Path.{ap, ◌∙◌}
+use Rattle.std.proofs.Common.{Err}
+use Rattle.std.proofs.lemmas.Result.{err_from_is_err_and}
+use Rattle.roundtrip.specs.Returns.{returned}
 use Rattle.roundtrip.proofs.Comparing.{bytes_of}
-use Rattle.frame_roundtrip.proofs.Returns.{not_written, written_frame, taken_back, taken_returns, refused_returns}
+use Rattle.roundtrip.proofs.Mapped.{value_kept, error_mapped}
+use Rattle.frame_roundtrip.specs.Returns.{of_frame_return}
+use Rattle.frame_roundtrip.proofs.Returns.{written_frame, taken_back, taken_returns, refused_returns}
 use Rattle.frame_roundtrip.proofs.frame_returns.Goals as goal
 
-pub returns-in-Err : goal.returns-in-Err
-returns-in-Err c =
+pub returns-in_err-bytes : goal.returns-in_err-bytes
+returns-in_err-bytes c =
     let a = c.args in
-    not_written a.method a.content.now a.frame.now a.out.now _ c.write_frame.ensures c.in-Err.is
-
-pub returns-in-Err-read_frame : goal.returns-in-Err-read_frame
-returns-in-Err-read_frame c =
-    let a = c.args in
-    let w = written_frame a.method a.content.now a.frame.now a.out.now _ c.write_frame.ensures c.in-Ok.is in
-    refused_returns a.method a.content.now a.frame.now a.out.now (bytes_of a.content.now (λ i. (c.type_inv.content i).fits)) w _ c.read_frame.ensures c.in-Err-read_frame.is
+    let w = written_frame a.method a.content.now a.frame.now a.out.now _ c.write_frame.ensures (value_kept _ c.write_frame.result c.map_err.ensures.cases c.in_ok-bits.was) in
+    let m = error_mapped _ c.read_frame.result c.map_err-2.ensures.cases c.in_err-bytes.was in
+    let p = err_from_is_err_and c.from_residual-in_err-bytes.result c.from_residual-in_err-bytes.ensures.1 in
+    ap (λ z. returned (of_frame_return z) c.write_frame.new.out c.read_frame.new.out) (p.1 ∙ ap Err (p.2 ∙ m.2))
+    ∙ refused_returns a.method a.content.now a.frame.now a.out.now (bytes_of a.content.now (λ i. (c.type_inv.content i).fits)) w _ c.read_frame.ensures m.1
     (ap (λ z. z.output) c.write_frame.ensures)
 
 pub same_content-requires : goal.same_content-requires
 same_content-requires c =
     let a = c.args in
-    let w = written_frame a.method a.content.now a.frame.now a.out.now _ c.write_frame.ensures c.in-Ok.is in
-    (taken_back a.method a.content.now a.frame.now a.out.now (bytes_of a.content.now (λ i. (c.type_inv.content i).fits)) w _ c.read_frame.ensures c.in-Ok-read_frame.is).room
+    let w = written_frame a.method a.content.now a.frame.now a.out.now _ c.write_frame.ensures (value_kept _ c.write_frame.result c.map_err.ensures.cases c.in_ok-bits.was) in
+    let b = value_kept _ c.read_frame.result c.map_err-2.ensures.cases c.in_ok-bytes.was in
+    (taken_back a.method a.content.now a.frame.now a.out.now (bytes_of a.content.now (λ i. (c.type_inv.content i).fits)) w _ c.read_frame.ensures b).room
 
 pub returns : goal.returns
 returns c =
     let a = c.args in
-    let w = written_frame a.method a.content.now a.frame.now a.out.now _ c.write_frame.ensures c.in-Ok.is in
-    taken_returns a.method a.content.now a.frame.now a.out.now (bytes_of a.content.now (λ i. (c.type_inv.content i).fits)) w _ c.read_frame.ensures c.in-Ok-read_frame.is
+    let w = written_frame a.method a.content.now a.frame.now a.out.now _ c.write_frame.ensures (value_kept _ c.write_frame.result c.map_err.ensures.cases c.in_ok-bits.was) in
+    let b = value_kept _ c.read_frame.result c.map_err-2.ensures.cases c.in_ok-bytes.was in
+    taken_returns a.method a.content.now a.frame.now a.out.now (bytes_of a.content.now (λ i. (c.type_inv.content i).fits)) w _ c.read_frame.ensures b
     c.same_content.ensures.1 (ap (λ z. z.output) c.write_frame.ensures)

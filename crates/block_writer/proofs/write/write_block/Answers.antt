@@ -3,11 +3,16 @@ use Rattle.std.proofs.lemmas.Result.{err_from_is_err_and}
 use Rattle.block_writer.proofs.Writing.{parts_refused, parts_allowed, parts_written_lem}
 use Rattle.block_writer.proofs.write.write_block.Goals as goal
 
-pub write_line-requires : goal.write_line-requires
-write_line-requires c =
+pub invariant_of-short : goal.invariant_of-short
+invariant_of-short c =
     let l = c.args.link in
     let s = c.args.parts.now in
-    parts_allowed l.method l.parity s.shape s.end s.header.now s.text.now c.args.out.now c.ask_parts.result c.is_seven.ensures c.ask_parts.ensures c.in_ok-ask_parts.was
+    let short =
+    parts_allowed l.method l.parity s.shape s.end s.header.now s.text.now c.args.out.now c.ask_parts.result c.is_seven.ensures c.ask_parts.ensures c.in_ok-ask_parts.was in
+    record {
+      header_small = short.0;
+      text_small = short.1;
+    }
 
 pub returns : goal.returns
 returns c =

@@ -1,9 +1,14 @@
 -- `pass` meets its contract. The loop's invariant: what is left to pass gives the whole. Assumes nothing.
-use mathlib.Core.Path.{◌∙◌, ap}
+use mathlib.Core.Path.{◌≡◌, ◌∙◌, ap, subst}
+use Prim.Native.Nat.{◌+◌, ◌*◌}
 use native.Mathlib.Omega.{arith}
-use Rattle.std.proofs.Common.{rules}
-use Rattle.frame.specs.Answers.{read_number, read_value}
-use Rattle.frame_walk.specs.Walk.{refused}
+use lib.ListN.{get_or}
+use Rattle.std.proofs.Common.{Err, rules}
+use Rattle.std.proofs.lemmas.Result.{err_from_is_err_and}
+use Rattle.zero_removal.specs.Removal.{Receives}
+use Rattle.frame_walk.specs.Steps.{zero_missing_at}
+use Rattle.frame_walk.specs.Walk.{of_walk}
+use Rattle.frame_walk.proofs.Mapped.{value_kept, error_mapped}
 use Rattle.frame_walk.proofs.Passing.{pass_begin, pass_missing, pass_turn, pass_part, pass_end}
 use Rattle.frame_walk.proofs.Line.pass.Goals as goal
 use Rattle.frame_walk.proofs.Line.pass.Goals.{in-Some, in_default}
@@ -14,18 +19,24 @@ loop-index-init c = pass_begin c.args.table.now c.args.start c.args.self.lent.no
 pub bounds-lent-index : goal.bounds-lent-index
 bounds-lent-index c = omega (arith, c.args.self.closed, c.loop-index-test.true)
 
-pub returns-in-Err : goal.returns-in-Err
-returns-in-Err c =
+pub returns-in_err-got : goal.returns-in_err-got
+returns-in_err-got c =
     let v = c.loop-index.invariant in
     let l = c.loop-index-test.true in
-    ap (λ z. refused (read_number z) (read_value z)) c.zero_missing.ensures
-    ∙ pass_missing c.args.self.closed v (omega (arith, l)) (c.in-Err.ensures v.fits.before_small)
+    let m = error_mapped _ c.unstuff_byte.result c.map_err.ensures.cases c.in_err-got.was in
+    let p = err_from_is_err_and c.from_residual.result c.from_residual.ensures.1 in
+    let byte = get_or c.args.self.lent.now c.loop-index.index-counter 0 in
+    let lacks = subst (Receives c.loop-index.r.before byte) m.1 (c.unstuff_byte.ensures v.fits.before_small) in
+    let made : c.in_err-got.field-0.0 ≡ zero_missing_at (8 * c.loop-index.index-counter + m.0.0) = search (m.2, rules) in
+    ap of_walk (p.1 ∙ ap Err (p.2 ∙ made)) ∙ pass_missing c.args.self.closed v (omega (arith, l)) lacks
 
 pub loop-index-preserved : goal.loop-index-preserved
 loop-index-preserved c =
     let v = c.loop-index.invariant in
     let l = c.loop-index-test.true in
-    let e = c.read_bits-read.ensures v.fits (c.in-Ok.ensures v.fits.before_small) in
+    let byte = get_or c.args.self.lent.now c.loop-index.index-counter 0 in
+    let kept = value_kept _ c.unstuff_byte.result c.map_err.ensures.cases c.in_ok-got.was in
+    let e = c.read_bits-read.ensures v.fits (subst (Receives c.loop-index.r.before byte) kept (c.unstuff_byte.ensures v.fits.before_small)) in
     elim c.match-read.branch [
       | in-Some w ↦ rw w.count-is (pass_turn c.args.self.closed v (omega (arith, l)) e w.in-Some.is (search rules) (w.register-is ∙ w.enter_byte-register.ensures))
       | in_default w ↦ rw (w.count-is, w.register-is) (pass_part c.args.self.closed v (omega (arith, l)) e w.in_default.is)

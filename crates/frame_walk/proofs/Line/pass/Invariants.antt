@@ -3,4 +3,4 @@ use Rattle.frame_walk.proofs.Passing.{Passing}
 use Rattle.frame_walk.proofs.Line.pass.Given as goal
 
 abbrev pub invariant-loop-index : goal.invariant-loop-index
-invariant-loop-index l = Passing l.table l.start l.lent l.end l.register l.count l.index l.r
+invariant-loop-index l = Passing l.table l.start l.lent l.end l.register l.count l.index-counter l.r
