@@ -19,7 +19,7 @@ pub(crate) fn hand_out(lent: &[u8], end: usize, n: usize, out: &mut [u8])
             return;
         }
         let got = unstuff_byte(r.before, *byte).unwrap();
-        let read = read_bits(r, *byte, got);
+        let read = read_bits(r, got);
         r = read.next;
         if let Some(whole) = read.byte {
             out[i] = whole;

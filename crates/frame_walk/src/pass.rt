@@ -64,7 +64,7 @@ impl Line<'_> {
         for index in 1..end / 8 {
             let byte = lent[index];
             let got = unstuff_byte(r.before, byte).map_err(|at| zero_missing(index, at))?;
-            let read = read_bits(r, byte, got);
+            let read = read_bits(r, got);
             r = read.next;
             if let Some(whole) = read.byte {
                 register = enter_byte(table, register, whole);

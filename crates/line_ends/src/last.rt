@@ -14,7 +14,7 @@ pub fn read_last(r: LineReader, byte: u8, k: usize) -> Result<LastRead, MissingZ
     let mark = 1u8 << (k % 8);
     let marked = byte % mark + mark;
     let got = unstuff_byte(r.before, marked)?;
-    let read = read_bits(r, marked, got);
+    let read = read_bits(r, got);
     let held = read.next.held;
     let Some(whole) = read.byte else {
         return Ok(LastRead {

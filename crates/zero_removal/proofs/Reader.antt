@@ -16,7 +16,7 @@ use Rattle.zero_removal.specs.declared.ReceivedByte.{ReceivedByte}
 use Rattle.zero_removal.specs.Removal.{ones_before, in_front, Gives}
 use Rattle.zero_removal.specs.Reader.{ReaderFits, pending_bits, whole_bits, ReadsByte}
 
-module _ (r : LineReader) (f : ReaderFits r) (byte : ℕ) (h : byte < 256) (d : ReceivedByte) (e : Gives r.before byte d) where
+module _ (r : LineReader) (f : ReaderFits r) (byte : ℕ) (d : ReceivedByte) (e : Gives r.before byte d) where
   abbrev n : ℕ
   n = 8 - d.zeros
 
@@ -40,16 +40,16 @@ module _ (r : LineReader) (f : ReaderFits r) (byte : ℕ) (h : byte < 256) (d : 
   word_small k q = subst (λ (n : ℕ). word < 2 ^ n) q (joined_small r.pending r.held n d.bits f.held_small e.bits_small)
 
   reads : (x : ByteRead) → pending_bits r ++ low_bits n d.bits ≡ whole_bits x.byte ++ pending_bits x.next
-      → x.next.before ≡ byte / 8 → x.next.pending < 8 → x.next.held < 2 ^ x.next.pending → ReadsByte r byte x
+      → x.next.before ≡ d.last → x.next.pending < 8 → x.next.held < 2 ^ x.next.pending → ReadsByte r byte x
   reads x k b p s =
       record {
         bits_are = ap (in_front (pending_bits r)) e.bits_are ∙ ap clean k;
         run_is = e.run_is ∙ ap ones_before (sym b);
-        fits = record { pending_small = p; held_small = s; before_small = omega arith };
+        fits = record { pending_small = p; held_small = s; before_small = omega (arith, b, e.last_small) };
       }
 
   pub read_whole : d.zeros ≤ r.pending
-      → ReadsByte r byte (record { byte = Some (joined % 256); next = record { before = byte / 8; held = joined / 256; pending = r.pending - d.zeros } })
+      → ReadsByte r byte (record { byte = Some (joined % 256); next = record { before = d.last; held = joined / 256; pending = r.pending - d.zeros } })
   read_whole l =
       let q : r.pending + n ≡ 8 + (r.pending - d.zeros) = omega (arith, e.few) in
       let k : n + r.pending ≡ r.pending - d.zeros + 8 = omega (arith, e.few) in
@@ -60,7 +60,7 @@ module _ (r : LineReader) (f : ReaderFits r) (byte : ℕ) (h : byte < 256) (d : 
       refl (omega (arith, f.pending_small)) (rest_small (r.pending - d.zeros) (word_small _ k)))
 
   pub read_part : r.pending < d.zeros
-      → ReadsByte r byte (record { byte = None; next = record { before = byte / 8; held = joined; pending = r.pending % 32 + (8 - d.zeros % 8) } })
+      → ReadsByte r byte (record { byte = None; next = record { before = d.last; held = joined; pending = r.pending % 32 + (8 - d.zeros % 8) } })
   read_part l =
       let q : r.pending % 32 + (8 - d.zeros % 8) ≡ r.pending + n = omega (arith, e.few, f.pending_small) in
       let k : n + r.pending ≡ r.pending + n = omega arith in

@@ -22,8 +22,8 @@ use Rattle.zero_removal.specs.declared.ReceivedByte.{ReceivedByte}
 use Rattle.zero_removal.specs.declared.MissingZero.{MissingZero}
 use Rattle.zero_removal.specs.Removal.{ones_through, ones_before, unstuff_part, Receives}
 
-abbrev pub received_byte : ℕ → ℕ → Result ReceivedByte MissingZero
-received_byte bits zeros = Ok (record { bits = bits; zeros = zeros })
+abbrev pub received_byte : ℕ → ℕ → ℕ → Result ReceivedByte MissingZero
+received_byte bits zeros last = Ok (record { bits = bits; zeros = zeros; last = last })
 
 abbrev pub missing_zero : ℕ → Result ReceivedByte MissingZero
 missing_zero place = Err (record { 0 = place })
@@ -45,7 +45,7 @@ module _ (byte behind : ℕ) where
   First = low ≡ bit_and byte to_zero
 
   abbrev pub less_one : Result ReceivedByte MissingZero
-  less_one = received_byte (bit_or low (high / 2)) 1
+  less_one = received_byte (bit_or low (high / 2)) 1 (byte / 8)
 
   module _ (more : ℕ) where
     abbrev to_second : ℕ
@@ -59,11 +59,11 @@ module _ (byte behind : ℕ) where
     Second = middle ≡ bit_and high to_second
 
     abbrev pub less_two : Result ReceivedByte MissingZero
-    less_two = received_byte (bit_or (bit_or low (middle / 2)) (bit_xor high middle / 4)) 2
+    less_two = received_byte (bit_or (bit_or low (middle / 2)) (bit_xor high middle / 4)) 2 (byte / 8)
 
     received_by : Result ReceivedByte MissingZero
     received_by =
-        cond (eqb behind 0) (received_byte byte 0)
+        cond (eqb behind 0) (received_byte byte 0 (byte / 8))
         (cond (eqb low (bit_and byte to_zero))
         (cond (eqb more 0) less_one (cond (eqb middle (bit_and high to_second)) less_two (missing_zero (count_trailing_zeros 32 more + 5))))
         (missing_zero (count_trailing_zeros 32 behind)))
@@ -92,7 +92,7 @@ is_missing_sound (missing p) q h = ap missing (eqb→eq p q h)
 tests : ℕ → ℕ → Result ReceivedByte MissingZero → List Bool
 tests run byte (Ok r) =
     is_clean (unstuff_part run 0 (low_bits 8 byte)) (low_bits (8 - r.zeros) r.bits)
-    ∷ eqb (ones_through run (low_bits 8 byte)) (ones_before (byte / 8)) ∷ leb r.zeros 2 ∷ ltb r.bits (2 ^ (8 - r.zeros)) ∷ []
+    ∷ eqb (ones_through run (low_bits 8 byte)) (ones_before r.last) ∷ leb r.zeros 2 ∷ ltb r.bits (2 ^ (8 - r.zeros)) ∷ ltb r.last 32 ∷ []
 tests run byte (Err m) = is_missing (unstuff_part run 0 (low_bits 8 byte)) m.0 ∷ ltb m.0 8 ∷ []
 
 tests_sound : (before byte : ℕ) (r : Result ReceivedByte MissingZero) → T (all (tests (ones_before before) byte r)) → Receives before byte r
@@ -104,6 +104,7 @@ tests_sound before byte (Ok r) t =
       run_is = eqb→eq _ _ a.1.0;
       few = leb-true _ _ (T_true _ a.1.1.0);
       bits_small = ltb-true _ _ (T_true _ a.1.1.1.0);
+      last_small = ltb-true _ _ (T_true _ a.1.1.1.1.0);
     }
 tests_sound before byte (Err m) t =
     let a = all_each (tests (ones_before before) byte (Err m)) t in
@@ -143,7 +144,7 @@ module _ (before byte : ℕ) (b : before < 32) (h : byte < 256) {f : ℕ} (is : 
       let test : ℕ → Type 0 = λ n. T (all (tests (ones_before before) byte (received_by byte behind (bit_and n 7)))) in
       tests_sound before byte _ (subst test (sym e) right_at)
 
-  pub received_whole : behind ≡ 0 → Receives before byte (received_byte byte 0)
+  pub received_whole : behind ≡ 0 → Receives before byte (received_byte byte 0 (byte / 8))
   unfolding received_by
   received_whole e = simp (eq-eqb behind 0 e) at (received-right refl)
 

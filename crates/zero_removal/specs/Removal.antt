@@ -1,5 +1,5 @@
 -- Zero removal in a part of the line, and in one byte of it. Assumes nothing.
-use Rattle.std.specs.Prelude.{◌≡◌, ℕ, ◌+◌, ◌-◌, ◌/◌, ◌^◌, ◌<◌, ◌≤◌, Bool, List, [], ◌∷◌, ◌++◌, eqb, Result, Ok, Err}
+use Rattle.std.specs.Prelude.{◌≡◌, ℕ, ◌+◌, ◌-◌, ◌^◌, ◌<◌, ◌≤◌, Bool, List, [], ◌∷◌, ◌++◌, eqb, Result, Ok, Err}
 use Rattle.bits.specs.Bytes.{low_bits}
 use Rattle.frame.specs.Stuffing.{Unstuffed, clean, missing, unstuff_bit, ones_after}
 use Rattle.zero_removal.specs.declared.ReceivedByte.{ReceivedByte}
@@ -27,9 +27,10 @@ in_front d (missing p) = missing p
 -- what a byte gives behind five bits
 pub record Gives (before byte : ℕ) (r : ReceivedByte) : Type 0 where
   pub bits_are : unstuff_part (ones_before before) 0 (low_bits 8 byte) ≡ clean (low_bits (8 - r.zeros) r.bits)
-  pub run_is : ones_through (ones_before before) (low_bits 8 byte) ≡ ones_before (byte / 2 ^ 3)
+  pub run_is : ones_through (ones_before before) (low_bits 8 byte) ≡ ones_before r.last
   pub few : r.zeros ≤ 2
   pub bits_small : r.bits < 2 ^ (8 - r.zeros)
+  pub last_small : r.last < 32
 
 -- or the place where it lacks a zero
 pub record Lacks (before byte : ℕ) (m : MissingZero) : Type 0 where

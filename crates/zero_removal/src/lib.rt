@@ -3,11 +3,13 @@
 // reader that fits they give what the rule gives. They stand apart because in one they are not inlined.
 #![tactic(auto)]
 
-// A byte of the line as it is received: its bits without the inserted zeros, and how many zeros those were.
+// A byte of the line as it is received: its bits without the inserted zeros, how many zeros those were, and its last five bits as they
+// came. With the third field the struct is passed in registers, field by field; of two fields of 32 bits it would be passed as one number.
 #[derive(Clone, Copy)]
 pub struct ReceivedByte {
     pub bits: u32,
     pub zeros: u32,
+    pub last: u32,
 }
 
 // The place in a byte of the line of a one where an inserted zero has to be.

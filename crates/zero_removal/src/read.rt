@@ -1,5 +1,5 @@
 // The next byte of content and check, out of the bytes of the line.
-ghost use Rattle.std.specs.Prelude.{◌≡◌};
+ghost use Rattle.std.specs.Prelude.{◌≡◌, ℕ};
 ghost use Rattle.zero_removal.specs.Removal.{Gives};
 ghost use Rattle.zero_removal.specs.Reader.{ReaderFits, ReadsByte, first_reader};
 
@@ -19,16 +19,15 @@ impl LineReader {
 }
 
 // The bits that a byte of the line gives as it is received, behind those that are pending.
-pub fn read_bits(r: LineReader, byte: u8, got: ReceivedByte) -> ByteRead
-    ensures { ReaderFits r → Gives r.before byte got → ReadsByte r byte result }
+pub fn read_bits(r: LineReader, got: ReceivedByte) -> ByteRead
+    ensures { (byte : ℕ) → ReaderFits r → Gives r.before byte got → ReadsByte r byte result }
 {
-    let before = (byte as u32) >> 3;
     let held = r.held | (got.bits << (r.pending % 32));
     if got.zeros <= r.pending {
         return ByteRead {
             byte: Some((held % 256) as u8),
             next: LineReader {
-                before,
+                before: got.last,
                 held: held >> 8,
                 pending: r.pending - got.zeros,
             },
@@ -37,7 +36,7 @@ pub fn read_bits(r: LineReader, byte: u8, got: ReceivedByte) -> ByteRead
     ByteRead {
         byte: None,
         next: LineReader {
-            before,
+            before: got.last,
             held,
             pending: r.pending % 32 + (8 - got.zeros % 8),
         },

@@ -10,9 +10,14 @@ pub fn unstuff_byte(before: u32, byte: u8) -> Result<ReceivedByte, MissingZero>
     ensures { before < 32 → Receives before byte result }
 {
     let bits = byte as u32;
+    let last = bits >> 3;
     let behind = fives(before | (bits << 5)) & 255;
     if behind == 0 {
-        return Ok(ReceivedByte { bits, zeros: 0 });
+        return Ok(ReceivedByte {
+            bits,
+            zeros: 0,
+            last,
+        });
     }
     let to_zero = behind ^ (behind - 1);
     let low = bits & (to_zero >> 1);
@@ -25,6 +30,7 @@ pub fn unstuff_byte(before: u32, byte: u8) -> Result<ReceivedByte, MissingZero>
         return Ok(ReceivedByte {
             bits: low | (high >> 1),
             zeros: 1,
+            last,
         });
     }
     let to_second = ((more ^ (more - 1)) << 5) | 31;
@@ -35,5 +41,6 @@ pub fn unstuff_byte(before: u32, byte: u8) -> Result<ReceivedByte, MissingZero>
     Ok(ReceivedByte {
         bits: (low | (middle >> 1)) | ((high ^ middle) >> 2),
         zeros: 2,
+        last,
     })
 }

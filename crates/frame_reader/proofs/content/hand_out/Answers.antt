@@ -36,7 +36,7 @@ loop-byte-preserved c =
     let gives : Gives c.loop-byte.r.before byte c.unwrap-got.result =
     subst (Receives c.loop-byte.r.before byte) c.unwrap-got.ensures (c.unstuff_byte.ensures v.fits.before_small) in
     let same = byte_between c.args.lent.now (c.args.end / 8) c.loop-byte.byte-index (omega (arith, c.loop-byte-test.true)) in
-    let e = subst (λ b. ReadsByte c.loop-byte.r b c.read_bits-read.result) same (c.read_bits-read.ensures v.fits gives) in
+    let e = subst (λ b. ReadsByte c.loop-byte.r b c.read_bits-read.result) same (c.read_bits-read.ensures _ v.fits gives) in
     let more : c.loop-byte.i < c.args.n = omega (arith, c.if-i-n.false, v.within) in
     elim c.match-read.branch [
       | in-Some w ↦ rw (w.out-is, w.i-is) (hand_turn c.requires.0 v more e w.in-Some.is (search rules))

@@ -36,7 +36,7 @@ loop-index-preserved c =
     let l = c.loop-index-test.true in
     let byte = get_or c.args.self.lent.now c.loop-index.index-counter 0 in
     let kept = value_kept _ c.unstuff_byte.result c.map_err.ensures.cases c.in_ok-got.was in
-    let e = c.read_bits-read.ensures v.fits (subst (Receives c.loop-index.r.before byte) kept (c.unstuff_byte.ensures v.fits.before_small)) in
+    let e = c.read_bits-read.ensures _ v.fits (subst (Receives c.loop-index.r.before byte) kept (c.unstuff_byte.ensures v.fits.before_small)) in
     elim c.match-read.branch [
       | in-Some w ↦ rw w.count-is (pass_turn c.args.self.closed v (omega (arith, l)) e w.in-Some.is (search rules) (w.register-is ∙ w.enter_byte-register.ensures))
       | in_default w ↦ rw (w.count-is, w.register-is) (pass_part c.args.self.closed v (omega (arith, l)) e w.in_default.is)

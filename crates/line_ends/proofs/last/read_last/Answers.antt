@@ -23,17 +23,17 @@ returns-in_err-got c fits h =
 pub returns-in_default : goal.returns-in_default
 returns-in_default c fits h =
     let a = c.args in
-    let e = c.read_bits-read.ensures fits (c.in_ok-got.ensures fits.before_small) in
+    let e = c.read_bits-read.ensures _ fits (c.in_ok-got.ensures fits.before_small) in
     last_part a.r a.byte a.k h (read_marked a.byte a.k h e) c.in_default.is
 
 pub returns-then-bits-lt8 : goal.returns-then-bits-lt8
 returns-then-bits-lt8 c fits h =
     let a = c.args in
-    let e = c.read_bits-read.ensures fits (c.in_ok-got.ensures fits.before_small) in
+    let e = c.read_bits-read.ensures _ fits (c.in_ok-got.ensures fits.before_small) in
     last_fewer a.r a.byte a.k h (read_marked a.byte a.k h e) (search rules) c.in-Some.is c.if-bits-lt8.true
 
 pub returns : goal.returns
 returns c fits h =
     let a = c.args in
-    let e = c.read_bits-read.ensures fits (c.in_ok-got.ensures fits.before_small) in
+    let e = c.read_bits-read.ensures _ fits (c.in_ok-got.ensures fits.before_small) in
     last_whole a.r a.byte a.k h (read_marked a.byte a.k h e) (search rules) c.in-Some.is c.if-bits-lt8.false

@@ -1,14 +1,13 @@
 -- `read_bits` meets its contract: eight bits make a byte, and fewer stay pending. Assumes nothing.
-use native.Mathlib.Omega.{arith}
 use Rattle.zero_removal.proofs.Reader.{read_whole, read_part}
 use Rattle.zero_removal.proofs.read.read_bits.Goals as goal
 
 pub returns-then-got-r : goal.returns-then-got-r
-returns-then-got-r c f e =
+returns-then-got-r c byte f e =
     let a = c.args in
-    read_whole a.r f a.byte (omega arith) a.got e c.if-got-r.true
+    read_whole a.r f byte a.got e c.if-got-r.true
 
 pub returns : goal.returns
-returns c f e =
+returns c byte f e =
     let a = c.args in
-    read_part a.r f a.byte (omega arith) a.got e c.if-got-r.false
+    read_part a.r f byte a.got e c.if-got-r.false
