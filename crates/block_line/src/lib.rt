@@ -36,14 +36,14 @@ pub fn put_line(link: Link, parts: &Parts<'_>, out: &mut [u8]) -> usize
     let parity = link.parity;
     let seven = is_seven(link.method);
     let clear = is_clear(parts.shape);
-    let start_signs = start_signs(parts.shape);
-    let inner_signs = inner_signs(parts.shape);
-    let end_signs = end_signs(clear, parts.end);
     let check = written_check(link, parts);
+    let start_signs = start_signs(parts.shape);
     let start = store_each(seven, parity, start_signs.as_slice(), &mut *out, 0);
     let head = store_characters(seven, parity, parts.header, &mut *out, start);
+    let inner_signs = inner_signs(parts.shape);
     let inner = store_each(seven, parity, inner_signs.as_slice(), &mut *out, head);
     let body = put_text(seven, parity, clear, parts.text, &mut *out, inner);
+    let end_signs = end_signs(clear, parts.end);
     let ending = store_each(seven, parity, end_signs.as_slice(), &mut *out, body);
     store_each(false, parity, check.as_slice(), &mut *out, ending)
 }
