@@ -3,12 +3,12 @@
 ghost use Rattle.std.specs.Prelude.{◌≡◌, false, [], ◌∷◌};
 ghost use Rattle.block.specs.Characters.{is_seven};
 ghost use Rattle.block_framing.specs.Framings.{kept_bytes};
-ghost use Rattle.block_segments.specs.Segment.{segment_bytes};
+ghost use Rattle.block_segments.specs.Segment.{kept_in};
 ghost use Rattle.block_check.specs.Numbers.{start_of, number_after};
 
 use block::{Method, sum_slice};
 use block_register::enter_kept;
-use block_segments::sum_kept;
+use block_segments::{Segment, sum_kept};
 use ccitt16::Ccitt16;
 use cyclic::Cyclic;
 use cyclic3::Cyclic3;
@@ -70,12 +70,12 @@ fn add_kept(m: Method, number: u16, clear: bool, part: &[u8]) -> u16
     }
 }
 
-// A segment that is said to keep `kept` bytes, added.
-pub fn add_segment(m: Method, number: u16, clear: bool, kept: usize, part: &[u8]) -> u16
-    ensures { result ≡ number_after m number (segment_bytes clear (is_seven m) kept part.now) }
+// A segment added.
+pub fn add_segment(m: Method, number: u16, segment: &Segment<'_>) -> u16
+    ensures { result ≡ number_after m number (kept_in (is_seven m) segment.now) }
 {
-    if kept == part.len() {
-        return add_run(m, number, part);
+    if segment.kept == segment.bytes.len() {
+        return add_run(m, number, segment.bytes);
     }
-    add_kept(m, number, clear, part)
+    add_kept(m, number, segment.clear, segment.bytes)
 }

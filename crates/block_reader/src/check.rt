@@ -7,7 +7,8 @@ ghost use Rattle.block.specs.Check.{check_of};
 ghost use Rattle.block_framing.specs.Framings.{counted_in, Ordered};
 ghost use Rattle.block_reader.specs.Counts.{CountsKept};
 
-use block::{Link, is_clear};
+use crate::parts::{header_of, text_of};
+use block::Link;
 use block_check::{add_one, add_run, add_segment, is_check, start_of};
 use block_framing::Segments;
 
@@ -18,15 +19,8 @@ pub(crate) fn check_right(link: Link, f: Segments, line: &[u8]) -> bool
     ensures { result ≡ same (bits_of (drop f.after line.now)) (check_of link.method link.parity (counted_in (is_seven link.method) f line.now)) }
 {
     let m = link.method;
-    let head = f.head;
-    let inner = f.inner;
-    let body = f.body;
-    let tail = f.tail;
-    let after = f.after;
-    let last = after - 1;
-    let shape = f.shape;
-    let header = add_segment(m, start_of(m), false, f.header, &line[head..inner]);
-    let signs = add_run(m, header, &line[inner..body]);
-    let text = add_segment(m, signs, is_clear(shape), f.text, &line[body..tail]);
-    is_check(link, add_one(m, text, line[last]), &line[after..])
+    let header = add_segment(m, start_of(m), &header_of(f, line));
+    let signs = add_run(m, header, &line[f.inner..f.body]);
+    let text = add_segment(m, signs, &text_of(f, line));
+    is_check(link, add_one(m, text, line[f.after - 1]), &line[f.after..])
 }

@@ -4,6 +4,7 @@
 #![tactic(auto)]
 
 mod check;
+mod parts;
 mod read;
 
 pub use read::read_block;

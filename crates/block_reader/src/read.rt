@@ -9,7 +9,8 @@ ghost use Rattle.block_framing.specs.Framings.{framed, framed_answer, header_in,
 ghost use Rattle.block_reader.specs.Counts.{CountsKept, held_by};
 
 use crate::check::check_right;
-use block::{Block, Link, ReadRefusal, is_clear, is_seven};
+use crate::parts::{header_of, text_of};
+use block::{Block, Link, ReadRefusal, is_seven};
 use block_framing::{Segments, find_framing};
 use block_segments::copy_both;
 
@@ -17,11 +18,9 @@ use block_segments::copy_both;
 fn held(f: Segments) -> Block
     ensures { of_read (Ok result) ≡ held_by f }
 {
-    let shape = f.shape;
-    let end = f.end;
     Block {
-        shape,
-        end,
+        shape: f.shape,
+        end: f.end,
         header: f.header,
         text: f.text,
         counted: f.counted,
@@ -34,20 +33,7 @@ fn hand_out(seven: bool, f: Segments, line: &[u8], out: &mut [u8])
     requires counts_kept { CountsKept seven f line.now }
     ensures { out.new ≡ sets out.old 0 (map (character seven) (header_in seven f line.now ++ text_in seven f line.now)) }
 {
-    let head = f.head;
-    let inner = f.inner;
-    let body = f.body;
-    let tail = f.tail;
-    let shape = f.shape;
-    copy_both(
-        seven,
-        f.header,
-        &line[head..inner],
-        is_clear(shape),
-        f.text,
-        &line[body..tail],
-        &mut *out,
-    );
+    copy_both(seven, &header_of(f, line), &text_of(f, line), &mut *out);
 }
 
 // Questions 18 and 19 of a framed line, then header and text handed out.

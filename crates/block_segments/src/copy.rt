@@ -3,8 +3,9 @@ ghost use Rattle.std.specs.Prelude.{◌≡◌, false, [], ◌∷◌, ◌++◌, m
 ghost use Rattle.std.proofs.lemmas.List.Edits.{sets};
 ghost use Rattle.block.specs.Characters as rule;
 ghost use Rattle.block_framing.specs.Framings.{kept_bytes};
-ghost use Rattle.block_segments.specs.Segment.{segment_bytes};
+ghost use Rattle.block_segments.specs.Segment.{kept_in};
 
+use crate::Segment;
 use crate::kept::Keeping;
 use block::character;
 
@@ -44,31 +45,23 @@ fn copy_whole(seven: bool, part: &[u8], out: &mut [u8])
     }
 }
 
-// The characters of a segment that is said to keep `kept` bytes; answers how many they are.
-fn copy_segment(seven: bool, clear: bool, kept: usize, part: &[u8], out: &mut [u8]) -> usize
-    ensures { (result ≡ length (segment_bytes clear seven kept part.now)) × (out.new ≡ sets out.old 0 (map (rule.character seven) (segment_bytes clear seven kept part.now))) }
+// The characters of a segment; answers how many they are.
+fn copy_segment(seven: bool, segment: &Segment<'_>, out: &mut [u8]) -> usize
+    ensures { (result ≡ length (kept_in seven segment.now)) × (out.new ≡ sets out.old 0 (map (rule.character seven) (kept_in seven segment.now))) }
 {
-    if kept == part.len() {
-        copy_whole(seven, part, &mut *out);
-        return kept;
+    if segment.kept == segment.bytes.len() {
+        copy_whole(seven, segment.bytes, &mut *out);
+        return segment.kept;
     }
-    copy_kept(seven, clear, part, &mut *out)
+    copy_kept(seven, segment.clear, segment.bytes, &mut *out)
 }
 
 // The characters of a header and, behind them, those of a text.
-pub fn copy_both(
-    seven: bool,
-    header_kept: usize,
-    header: &[u8],
-    clear: bool,
-    text_kept: usize,
-    text: &[u8],
-    out: &mut [u8],
-)
-    ensures { out.new ≡ sets out.old 0 (map (rule.character seven) (segment_bytes false seven header_kept header.now ++ segment_bytes clear seven text_kept text.now)) }
+pub fn copy_both(seven: bool, header: &Segment<'_>, text: &Segment<'_>, out: &mut [u8])
+    ensures { out.new ≡ sets out.old 0 (map (rule.character seven) (kept_in seven header.now ++ kept_in seven text.now)) }
 {
-    let n = copy_segment(seven, false, header_kept, header, &mut *out);
+    let n = copy_segment(seven, header, &mut *out);
     if n < out.len() {
-        copy_segment(seven, clear, text_kept, text, &mut out[n..]);
+        copy_segment(seven, text, &mut out[n..]);
     }
 }

@@ -2,6 +2,14 @@
 // block_framing) is summed, or copied to an output. Each function takes every input.
 #![tactic(auto)]
 
+// A segment: its bytes, how many of them it is said to keep, and whether it is clear text.
+#[derive(Clone, Copy)]
+pub struct Segment<'a> {
+    pub bytes: &'a [u8],
+    pub kept: usize,
+    pub clear: bool,
+}
+
 mod copy;
 mod kept;
 mod sum;

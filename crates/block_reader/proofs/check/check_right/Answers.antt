@@ -18,9 +18,11 @@ returns c =
     let m = c.args.link.method in
     let f = c.args.f in
     let line = c.args.line.now in
+    let seven = is_seven m in
+    let counts = c.requires.counts_kept in
     let number =
-    folded (is_seven m) f line c.requires.ordered c.requires.counts_kept (number_after m) (number_append m) (start_of m) c.start_of.ensures c.add_segment-header.ensures
-    c.add_run-signs.ensures c.is_clear.ensures c.add_segment-text.ensures c.add_one.ensures in
+    folded seven f line c.requires.ordered (number_after m) (number_append m) (start_of m) c.start_of.ensures (c.header_of.ensures seven counts) c.add_segment-header.ensures
+    c.add_run-signs.ensures (c.text_of.ensures seven counts) c.add_segment-text.ensures c.add_one.ensures in
     c.is_check.ensures
     ∙ ap₂ (λ l n. same (bits_of l) (check_from m c.args.link.parity n)) (take_all (length line - f.after) (drop f.after line) (omega (arith, length-drop f.after line))) number
     ∙ ap (same (bits_of (drop f.after line))) (check-after m c.args.link.parity (counted_in (is_seven m) f line))
