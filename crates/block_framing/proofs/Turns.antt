@@ -1,4 +1,4 @@
--- The walk's loop: its invariant, where it begins, a turn, and its ends; runs of data, which it passes over at once. Assumes nothing.
+-- The walk's loop: its invariant, a turn, and its end; runs of data, which it passes over at once. Assumes nothing.
 use mathlib.Core.Path.{◌≡◌, refl, sym, ap, subst, ◌∙◌}
 use Prim.Native.Nat.{ℕ, zero, suc, ◌+◌, ◌-◌, ◌≤◌, ◌<◌}
 use native.Mathlib.Nat.{add-zero}
@@ -8,11 +8,9 @@ use mathlib.Core.Bool.{Bool, true, false, true≢false, cond, not, ◌&&◌}
 use mathlib.Core.List.{List, [], ◌∷◌}
 use Rattle.std.specs.Prelude.{Option, None, Some}
 use Rattle.std.specs.Option.{option_or}
-use lib.ListN.{length, get_or, take, drop, drop_of_length-le, length-drop}
+use lib.ListN.{length, get_or, take, drop, length-drop}
 use lib.Seq.{drop-cons, get_or-drop, take-length}
-use borrow.Author.Count.{below_more}
 use Rattle.block.specs.declared.EndSign.{EndSign}
-use Rattle.block.specs.declared.ReadRefusal.{ReadRefusal}
 use Rattle.block.specs.declared.Mark.{Mark}
 use Rattle.block.specs.declared.Mark.TheVariants.{LeftOut, HeaderByte, TextByte, InnerStart, End}
 use Rattle.block.specs.declared.Field.{Field}
@@ -21,9 +19,8 @@ use Rattle.block.specs.declared.Judged.{Judged}
 use Rattle.block.specs.declared.Judged.TheVariants.{Is, Ends}
 use Rattle.block.specs.Signs.{Sign, soh, stx, etx, dle, syn, etb, us, other, sign_of, is_syn, is_dle}
 use Rattle.block.specs.Characters.{character}
-use Rattle.block.specs.Walk.{refused, halt, cut, onward, judge, walk}
+use Rattle.block.specs.Walk.{onward, judge, walk}
 use Rattle.block.specs.Write.{is_other}
-use Rattle.block.specs.Answers.{read_number, read_value}
 use Rattle.block.specs.Scan.{first_failing}
 use Rattle.block.proofs.Scans.{Reached, reached}
 use Rattle.block_scan.specs.Tests.{is_plain_byte, is_clear_byte, is_data}
@@ -31,9 +28,9 @@ use Rattle.block_end.specs.Ends.{text_signs, is_fill}
 use Rattle.block_framing.specs.declared.FirstInnerStart.{FirstInnerStart}
 use Rattle.block_framing.specs.declared.LeftOuts.{LeftOuts}
 use Rattle.block_framing.specs.declared.Segments.{Segments}
-use Rattle.block_framing.specs.Framings.{start_of, framed, refusal}
-use Rattle.block_framing.specs.Walks.{no_left_outs, leave, place_of, Small, segments_at, stopped, walk_answer}
-use Rattle.block_framing.specs.Runs.{data_mark, Run}
+use Rattle.block_framing.specs.Framings.{start_of, framed}
+use Rattle.block_framing.specs.Walks.{no_left_outs, leave, place_of, Small, segments_at, walk_answer}
+use Rattle.block_framing.specs.Runs.{data_mark}
 
 -- ---- the place of the start
 
@@ -78,11 +75,6 @@ small_leave End t i s = record { inner = omega (arith, s.inner); all = omega (ar
 pub small_widen : (t : LeftOuts) (i n : ℕ) → i ≤ n → Small t i → Small t n
 small_widen t i n h s = record { inner = omega (arith, s.inner); all = omega (arith, s.all) }
 
--- a line that is cut is refused, whatever was kept
-cut_anywhere : (start : ℕ) (t : LeftOuts) (i : ℕ) (f : Field) (r : ReadRefusal) → refused (read_number r) (read_value r) ≡ cut f
-    → refusal (read_number r) (read_value r) ≡ walk_answer start t i (halt (cut f))
-cut_anywhere start t i f r e = ap (stopped start t i) e
-
 -- ---- the invariant: what is left of the walk gives the whole
 
 pub record Walking (seven : Bool) (line : List ℕ) (t : LeftOuts) (f : Field) (i : ℕ) : Type 0 where
@@ -91,19 +83,9 @@ pub record Walking (seven : Bool) (line : List ℕ) (t : LeftOuts) (f : Field) (
   pub small : Small t i
   pub rest : walk_answer (start_of seven line) t i (walk seven (drop i line) i f) ≡ walk_answer (start_of seven line) no_left_outs 0 (walk seven line 0 Start)
 
-pub begin : (seven : Bool) (line : List ℕ) → length line ≤ 16384 → Walking seven line no_left_outs Start 0
-begin seven line h = record { within = omega arith; size = h; small = record { inner = omega arith; all = omega arith }; rest = refl }
-
 module _ {seven : Bool} {line : List ℕ} {t : LeftOuts} {f : Field} {i : ℕ} (w : Walking seven line t f i) where
   pub small_enough : Small t 16384
   small_enough = small_widen t i 16384 (omega (arith, w.within, w.size)) w.small
-
-  -- a line that ends before its end sign
-  pub out : length line ≤ i → (r : ReadRefusal) → refused (read_number r) (read_value r) ≡ cut f
-      → refusal (read_number r) (read_value r) ≡ walk_answer (start_of seven line) no_left_outs 0 (walk seven line 0 Start)
-  out h r e =
-      cut_anywhere (start_of seven line) t i f r e
-      ∙ sym (ap (λ l. walk_answer (start_of seven line) t i (walk seven l i f)) (drop_of_length-le line h)) ∙ w.rest
 
   module _ (below : i < length line) {c : ℕ} {j : Judged} (char : c ≡ character seven (get_or line i 0)) (judged : j ≡ judge seven f (sign_of c)) where
     -- the byte at i, then the walk from i + 1 on
@@ -172,17 +154,6 @@ module _ (seven : Bool) where
   data_of Text b e = text_data (sign_of (character seven b)) e
   data_of Clear b e = clear_data (sign_of (character seven b)) e
   data_of ClearDle b e = absurd (true≢false (sym e))
-
-pub run_none : {P : ℕ → Type 0} {size from : ℕ} → from ≤ size → Run P size from from
-run_none h = record { on = omega arith; within = h; all = λ k l m. absurd (omega arith) }
-
-pub run_more : {P : ℕ → Type 0} {size from end : ℕ} → Run P size from end → end < size → P end → Run P size from (end + 1)
-run_more {P} {size} {from} {end} r h x =
-    record {
-      on = omega (arith, r.on);
-      within = omega arith;
-      all = λ k l m. below_more (λ i. from ≤ i → P i) end (λ i q z. r.all i z q) (λ z. x) k m l;
-    }
 
 -- a byte of data leaves what is kept
 leave_data : (f : Field) (i : ℕ) (t : LeftOuts) → (b : ℕ) (seven : Bool) → is_data seven f b ≡ true → leave (data_mark f) i t ≡ t

@@ -22,7 +22,7 @@ use Rattle.zero_removal.specs.Reader.{ReaderFits, pending_bits, whole_bits, Read
 use Rattle.zero_removal.proofs.Parts.{in_front-none, moved, unstuff_at, moved_front, slice_rest, byte_missing, byte_turn, first_fits, first-left}
 use Rattle.line_ends.specs.declared.LastRead.{LastRead}
 use Rattle.line_ends.specs.Last.{last_of, LastBits, LacksLast}
-use Rattle.frame_walk.specs.Walk.{Walked, closed, refused}
+use Rattle.frame_walk.specs.Walk.{closed, refused}
 use Rattle.frame_walk.specs.Steps.{passed}
 
 -- ---- a byte entered
@@ -101,12 +101,6 @@ module _ {table : List ℕ} {start : ℕ} {lent : List ℕ} {end register count 
 
 -- ---- the bits behind them
 
-pub pass_end : {table : List ℕ} {start : ℕ} {lent : List ℕ} {end register count index : ℕ} {r : LineReader} → Passing table start lent end register count index r
-    → index ≡ end / 8 → {w : Walked} → w ≡ passed table end register count (left_at (bits_of lent) end (end / 8) r)
-    → w ≡ passed table end start 0 (unstuff 0 8 (slice 8 end (bits_of lent)))
-pass_end {table} {lent = lent} {end = end} {register = register} {count = count} {r = r} j e q =
-    q ∙ ap (λ i. passed table end register count (left_at (bits_of lent) end i r)) (sym e) ∙ j.left
-
 -- the bits from the last byte on
 left_last : (lent : List ℕ) (end : ℕ) → end + 8 ≤ 8 * length lent → (r : LineReader)
     → left_at (bits_of lent) end (end / 8) r ≡ moved (8 * (end / 8)) (last_of r (get_or lent (end / 8) 0) (end % 8))
@@ -145,9 +139,6 @@ module _ (table : List ℕ) (register count : ℕ) (r : LineReader) (lent : List
 
     left : left_at (bits_of lent) end i r ≡ clean s
     left = left_last lent end fits r ∙ ap (moved (8 * i)) found.left
-
-    pub last_few : x.bits < 16
-    last_few = omega (arith, found.counted, found.below)
 
     pub last_part : x.byte ≡ None → closed end (count + x.bits) register ≡ passed table end register count (left_at (bits_of lent) end i r)
     unfolding passed enter_all_by_table

@@ -79,14 +79,6 @@ module _ (byte k : ℕ) (h : k < 8) where
   mark_is : 1 * 2 ^ k % 256 ≡ 2 ^ k
   mark_is = ap (λ n. n % 256) (one-mul (2 ^ k)) ∙ mod-eq_of_lt (pow-lt h)
 
-  pub mark_some : 0 < 1 * 2 ^ k % 256
-  mark_some = rw mark_is (pow_pos k)
-
-  pub marked_small : marked_byte < 256
-  marked_small =
-      let l : 2 ^ k ≤ 2 ^ 7 = pow_mono {i = k} {j = 7} (omega arith) in
-      rw mark_is (omega (arith, l, mod-lt byte (pow_pos k)))
-
   marked-bits : low_bits 8 marked_byte ≡ low_bits k byte ++ (true ∷ zeros (7 - k))
   unfolding low_bits
   marked-bits =

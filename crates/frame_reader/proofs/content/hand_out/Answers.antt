@@ -43,9 +43,6 @@ loop-byte-preserved c =
       | in_default w ↦ rw (w.out-is, w.i-is) (hand_part c.requires.0 v more e w.in_default.is)
     ]
 
-pub shape_of-out : goal.shape_of-out
-shape_of-out c = c.loop-byte.invariant.size
-
 pub returns : goal.returns
 returns c =
     let v = c.loop-byte.invariant in

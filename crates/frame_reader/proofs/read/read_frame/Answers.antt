@@ -14,34 +14,26 @@ returns-in_default c =
 pub returns-then-not-f : goal.returns-then-not-f
 returns-then-not-f c =
     let a = c.args in
-    let found = c.find_framing-framing.ensures in
-    let told = c.in-Ok.is in
-    let f = framing_found a.method a.lent.now a.bits found told in
+    let f = framing_found a.method a.lent.now a.bits c.find_framing-framing.ensures c.in-Ok.is in
     is_refused a.out.now (wrong_check f a.out.now (not-true _ c.if-not-f.true))
 
 pub overflow_sub-needed : goal.overflow_sub-needed
 overflow_sub-needed c =
     let a = c.args in
-    let found = c.find_framing-framing.ensures in
-    let told = c.in-Ok.is in
-    let f = framing_found a.method a.lent.now a.bits found told in
+    let f = framing_found a.method a.lent.now a.bits c.find_framing-framing.ensures c.in-Ok.is in
     omega (arith, f.counted, f.has_content)
 
 pub returns-then-needed-out : goal.returns-then-needed-out
 returns-then-needed-out c =
     let a = c.args in
-    let found = c.find_framing-framing.ensures in
-    let told = c.in-Ok.is in
-    let f = framing_found a.method a.lent.now a.bits found told in
+    let f = framing_found a.method a.lent.now a.bits c.find_framing-framing.ensures c.in-Ok.is in
     let right = not-false _ c.if-not-f.false in
     is_refused a.out.now (output_short f a.out.now right c.check_width.ensures c.if-needed-out.true)
 
 pub hand_out-requires : goal.hand_out-requires
 hand_out-requires c =
     let a = c.args in
-    let found = c.find_framing-framing.ensures in
-    let told = c.in-Ok.is in
-    let f = framing_found a.method a.lent.now a.bits found told in
+    let f = framing_found a.method a.lent.now a.bits c.find_framing-framing.ensures c.in-Ok.is in
     let right = not-false _ c.if-not-f.false in
     let n = content-bits f a.out.now right c.check_width.ensures in
     let w = (sizes a.method).width_large in
@@ -50,8 +42,6 @@ hand_out-requires c =
 pub returns : goal.returns
 returns c =
     let a = c.args in
-    let found = c.find_framing-framing.ensures in
-    let told = c.in-Ok.is in
-    let f = framing_found a.method a.lent.now a.bits found told in
+    let f = framing_found a.method a.lent.now a.bits c.find_framing-framing.ensures c.in-Ok.is in
     let right = not-false _ c.if-not-f.false in
     is_taken f a.out.now right c.check_width.ensures c.if-needed-out.false c.hand_out.ensures

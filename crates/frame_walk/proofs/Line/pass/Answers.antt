@@ -9,15 +9,12 @@ use Rattle.zero_removal.specs.Removal.{Receives}
 use Rattle.frame_walk.specs.Steps.{zero_missing_at}
 use Rattle.frame_walk.specs.Walk.{of_walk}
 use Rattle.frame_walk.proofs.Mapped.{value_kept, error_mapped}
-use Rattle.frame_walk.proofs.Passing.{pass_begin, pass_missing, pass_turn, pass_part, pass_end}
+use Rattle.frame_walk.proofs.Passing.{pass_begin, pass_missing, pass_turn, pass_part}
 use Rattle.frame_walk.proofs.Line.pass.Goals as goal
 use Rattle.frame_walk.proofs.Line.pass.Goals.{in-Some, in_default}
 
 pub loop-index-init : goal.loop-index-init
 loop-index-init c = pass_begin c.args.table.now c.args.start c.args.self.lent.now c.args.self.end c.args.self.opened c.new-r.ensures
-
-pub bounds-lent-index : goal.bounds-lent-index
-bounds-lent-index c = omega (arith, c.args.self.closed, c.loop-index-test.true)
 
 pub returns-in_err-got : goal.returns-in_err-got
 returns-in_err-got c =
@@ -41,13 +38,3 @@ loop-index-preserved c =
       | in-Some w ↦ rw w.count-is (pass_turn c.args.self.closed v (omega (arith, l)) e w.in-Some.is (search rules) (w.register-is ∙ w.enter_byte-register.ensures))
       | in_default w ↦ rw (w.count-is, w.register-is) (pass_part c.args.self.closed v (omega (arith, l)) e w.in_default.is)
     ]
-
-pub last-requires : goal.last-requires
-last-requires c =
-    let v = c.loop-index in
-    (v.invariant.fits, omega (arith, v.invariant.counted, v.invariant.within))
-
-pub returns : goal.returns
-returns c =
-    let v = c.loop-index.invariant in
-    pass_end v (omega (arith, c.loop-index-test.false, v.within)) c.last.ensures

@@ -26,12 +26,6 @@ returns-then-index-line-2 c =
     let a = c.args in
     flag-none a.line.now a.at (omega (arith, c.if-index-line-2.true, c.if-shift-eq0.false))
 
-pub overflow_cast-two : goal.overflow_cast-two
-overflow_cast-two c = omega (arith, (c.shared_slice_known-2-1.given (c.args.at / 8)).fits)
-
-pub overflow_cast-two-2 : goal.overflow_cast-two-2
-overflow_cast-two-2 c = omega (arith, (c.shared_slice_known-3-1.given (c.args.at / 8 + 1)).fits)
-
 pub returns : goal.returns
 returns c =
     let a = c.args in

@@ -1,18 +1,10 @@
 -- `read_last` meets its contract: the marked byte gives the last bits, and the mark behind them tells how many. Assumes nothing.
 use mathlib.Core.Path.{◌∙◌, ap, subst, sym}
-use Prim.Native.Nat.{◌%◌}
-use native.Mathlib.Omega.{arith}
 use Rattle.std.proofs.Common.{Err, rules}
 use Rattle.std.proofs.lemmas.Result.{err_from_is_err_and}
 use Rattle.line_ends.specs.Last.{ReadsLast}
-use Rattle.line_ends.proofs.Marked.{mark_some, marked_small, read_marked, last_missing, last_part, last_fewer, last_whole}
+use Rattle.line_ends.proofs.Marked.{read_marked, last_missing, last_part, last_fewer, last_whole}
 use Rattle.line_ends.proofs.last.read_last.Goals as goal
-
-pub nonzero_rem-marked : goal.nonzero_rem-marked
-nonzero_rem-marked c = mark_some c.args.byte (c.args.k % 8) (omega arith)
-
-pub overflow_add-marked : goal.overflow_add-marked
-overflow_add-marked c = omega (arith, marked_small c.args.byte (c.args.k % 8) (omega arith))
 
 pub returns-in_err-got : goal.returns-in_err-got
 returns-in_err-got c fits h =

@@ -1,7 +1,5 @@
 -- `unstuff_byte` meets its contract: each answer is that of the law of its case. Assumes nothing.
 use native.Mathlib.Omega.{arith}
-use lib.Bits.{bit_and}
-use lib.Count.{trailing_le}
 use Rattle.zero_removal.proofs.Removal.{received_whole, first_missing, received_one, second_missing, received-two}
 use Rattle.zero_removal.proofs.unstuff.unstuff_byte.Goals as goal
 
@@ -19,9 +17,6 @@ pub returns-then-more-eq0 : goal.returns-then-more-eq0
 returns-then-more-eq0 c small =
     let a = c.args in
     received_one a.before a.byte small (omega arith) c.fives-behind.ensures c.if-behind-eq0.false c.if-low-bits.false c.fives-more.ensures c.if-more-eq0.true
-
-pub overflow_add-result : goal.overflow_add-result
-overflow_add-result c = omega (arith, trailing_le 32 (bit_and c.fives-more.result 7))
 
 pub returns-then-middle-high : goal.returns-then-middle-high
 returns-then-middle-high c small =
