@@ -10,10 +10,15 @@ use borrow.Author.Tests.{eqb-true, eqb-false}
 use lib.Dec.{T, eqb}
 use lib.Bits.{bit_xor, xor_mod, xor_shr}
 use lib.Pow.{shr-shr, field, mod-mod-pow, mod-pow-add}
-use lib.ListN.{length, length-append}
+use lib.ListN.{length, length-append, get_or}
 use Rattle.bits.specs.Strings.{xor_bits, zeros, ones, invert, same}
 use Rattle.bits.specs.Bytes.{low_bits, bits_of, Bytes, value}
 use Rattle.bits.proofs.Strings.{append_split, invert-xor, xor_bits-append, xor_bits_comm, same_sound, same_self}
+
+-- the elements of a slice are bytes
+pub bytes_of : (bs : List ℕ) → ((i : ℕ) → get_or bs i 0 < 256) → Bytes bs
+bytes_of [] small = tt
+bytes_of (b ∷ bs) small = (small 0, bytes_of bs (λ i. small (suc i)))
 
 -- ---- low_bits
 

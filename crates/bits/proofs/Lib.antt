@@ -4,3 +4,4 @@ pub mod Packing
 pub mod WholeBytes
 pub mod Differences
 pub mod Tests
+pub mod Mapped

@@ -1,5 +1,5 @@
 -- Received bytes are the bytes of a check exactly where their bits are the check's. Assumes nothing.
-use Rattle.std.proofs.Common.{◌≡◌, ℕ, suc, ◌-◌, ◌*◌, ◌<◌, Bool, true, false, List, [], ◌∷◌, ◌++◌, length, get_or, sym, ap, ◌∙◌, arith}
+use Rattle.std.proofs.Common.{◌≡◌, ℕ, ◌-◌, ◌*◌, Bool, true, false, List, ◌++◌, length, sym, ap, ◌∙◌, arith}
 use mathlib.Core.Bool.{true≢false}
 use lib.Dec.{T}
 use Rattle.std.specs.Str.{bytes_eq}
@@ -21,11 +21,6 @@ filled : (s : List Bool) → 8 * bytes_for (length s) ≡ length s → bits_of (
 filled s whole =
     let z : 8 * bytes_for (length s) - length s ≡ 0 = omega (arith, whole) in
     bits_of-pack s ∙ ap (λ k. s ++ zeros k) z ∙ append-nil s
-
--- the elements of a slice are bytes
-pub bytes_of : (bs : List ℕ) → ((i : ℕ) → get_or bs i 0 < 256) → Bytes bs
-bytes_of [] small = tt
-bytes_of (b ∷ bs) small = (small 0, bytes_of bs (λ i. small (suc i)))
 
 pub received : (x sent : List ℕ) (check : List Bool) → Bytes x → 8 * bytes_for (length check) ≡ length check → sent ≡ pack check
     → bytes_eq x sent ≡ same (bits_of x) check

@@ -1,6 +1,6 @@
 -- A written block comes back: by the second property its line is read where the output holds the parts, and the questions before
 -- the output's do not depend on its length. Assumes nothing.
-use mathlib.Core.Path.{◌≡◌, refl, sym, ap, ap₂, ◌∙◌}
+use mathlib.Core.Path.{◌≡◌, refl, sym, ap, ◌∙◌}
 use Prim.Native.Nat.{ℕ, ◌+◌, ◌≤◌}
 use native.Mathlib.Omega.{arith}
 use mathlib.Core.Bool.{Bool, true, false, cond}
@@ -23,14 +23,14 @@ use Rattle.block.specs.Check.{check_of}
 use Rattle.block.specs.Marks.{counted, check_bytes}
 use Rattle.block.specs.Read.{Framed, found, unframed, framed, Parts, parts_of, output_length, ReadAnswer, taken, refusal, ask_check, read_block, read_output}
 use Rattle.block.specs.Write as writing
-use Rattle.block.specs.Answers.{of_read, of_read_answer, after_reading, read_call, write_number, write_value, of_written, of_write_answer, after_writing, write_call}
+use Rattle.block.specs.Answers.{of_read, of_read_answer, after_reading, read_call, of_written, of_write_answer, write_call}
 use Rattle.guarantees.specs.Second.{parts_written}
 use Rattle.guarantees.proofs.Second.{second_property}
 use Rattle.roundtrip.proofs.Comparing.{joined}
 use Rattle.roundtrip.specs.declared.RoundTripError.{RoundTripError}
-use Rattle.roundtrip.specs.declared.RoundTripError.TheVariants.{NotWritten, NotRead}
-use Rattle.roundtrip.specs.Returns.{Returned, refused, returned}
-use Rattle.block_roundtrip.specs.Returns.{block_back, block_answer, block_output, block_trip, block_returns, BlockOf, of_block_return}
+use Rattle.roundtrip.specs.declared.RoundTripError.TheVariants.{NotRead}
+use Rattle.roundtrip.specs.Returns.{Returned, returned}
+use Rattle.block_roundtrip.specs.Returns.{block_back, block_answer, block_output, block_returns, BlockOf, of_block_return}
 
 -- ---- what the output's length changes
 
@@ -72,20 +72,6 @@ module _ (m : Method) (p : Parity) (s : Shape) (e : EndSign) (head body line out
   -- what the function ensures
   abbrev Returns : Result Bool (RoundTripError WriteRefusal ReadRefusal) → List ℕ → List ℕ → Type 0
   Returns r line₁ out₁ = returned (of_block_return r) line₁ out₁ ≡ block_returns m p s e head body line out
-
-  pub not_written : (w : Result ℕ WriteRefusal) {line₁ : List ℕ} → Writes w line₁ → {r : WriteRefusal} → w ≡ Err r → Returns (Err (NotWritten r)) line₁ out
-  not_written w {line₁ = line₁} h {r} q = go rule (ap (λ z. called (of_written z) line₁) (sym q) ∙ h)
-    where
-      go : (a : writing.WriteAnswer) → called (of_written (Err r)) line₁ ≡ after_writing a line
-          → returned (of_block_return (Err (NotWritten r))) line₁ out ≡ block_trip a back line out
-      go (writing.refusal n v) g =
-          let f = ap (λ c. c.answer) g in
-          let i : write_number r ≡ n = cc in
-          let j : write_value r ≡ v = cc in
-          joined (ap₂ refused i j) (ap (λ c. c.output) g) refl
-      go (writing.written l) g =
-          let f = ap (λ c. c.answer) g in
-          absurd (let z : ◌≡◌ {A = ℕ} 0 1 = cc in omega arith)
 
   -- the first n bytes are the line
   pub record WrittenLine (n : ℕ) (line₁ : List ℕ) : Type 0 where

@@ -1,6 +1,6 @@
 -- A written frame comes back: by the second property its content is read where the output holds it, and the questions before the
 -- output's do not depend on its length. Assumes nothing.
-use mathlib.Core.Path.{◌≡◌, refl, sym, ap, ap₂, ◌∙◌}
+use mathlib.Core.Path.{◌≡◌, refl, sym, ap, ◌∙◌}
 use Prim.Native.Nat.{ℕ, ◌*◌, ◌≤◌}
 use native.Mathlib.Omega.{arith}
 use mathlib.Core.Bool.{Bool, true, false, cond}
@@ -21,13 +21,13 @@ use Rattle.frame.specs.declared.ReadRefusal.{ReadRefusal}
 use Rattle.frame.specs.Frame.{parameters_of}
 use Rattle.frame.specs.Read.{Framed, found, unframed, framed, check_in, content_of, ReadAnswer, taken, refusal, ask_check, read_bits, read_frame, read_output}
 use Rattle.frame.specs.Write as writing
-use Rattle.frame.specs.Answers.{of_read, of_read_answer, after_reading, read_call, write_number, write_value, of_written, of_write_answer, after_writing, write_call}
+use Rattle.frame.specs.Answers.{of_read, of_read_answer, after_reading, read_call, of_written, of_write_answer, write_call}
 use Rattle.guarantees.specs.Second.{FrameReadsBack}
 use Rattle.guarantees.proofs.Second.{second_property}
 use Rattle.roundtrip.specs.declared.RoundTripError.{RoundTripError}
-use Rattle.roundtrip.specs.declared.RoundTripError.TheVariants.{NotWritten, NotRead}
-use Rattle.roundtrip.specs.Returns.{Returned, refused, returned}
-use Rattle.frame_roundtrip.specs.Returns.{frame_back, frame_answer, frame_output, frame_trip, frame_returns, ContentOf, of_frame_return}
+use Rattle.roundtrip.specs.declared.RoundTripError.TheVariants.{NotRead}
+use Rattle.roundtrip.specs.Returns.{Returned, returned}
+use Rattle.frame_roundtrip.specs.Returns.{frame_back, frame_answer, frame_output, frame_returns, ContentOf, of_frame_return}
 use Rattle.roundtrip.proofs.Comparing.{joined}
 
 -- ---- what the output's length changes
@@ -82,20 +82,6 @@ module _ (m : FrameMethod) (content frame out : List ℕ) where
   -- what the function ensures
   abbrev Returns : Result Bool (RoundTripError WriteRefusal ReadRefusal) → List ℕ → List ℕ → Type 0
   Returns r frame₁ out₁ = returned (of_frame_return r) frame₁ out₁ ≡ frame_returns (parameters_of m) content frame out
-
-  pub not_written : (w : Result ℕ WriteRefusal) {frame₁ : List ℕ} → Writes w frame₁ → {r : WriteRefusal} → w ≡ Err r → Returns (Err (NotWritten r)) frame₁ out
-  not_written w {frame₁ = frame₁} h {r} q = go rule (ap (λ z. called (of_written z) frame₁) (sym q) ∙ h)
-    where
-      go : (a : writing.WriteAnswer) → called (of_written (Err r)) frame₁ ≡ after_writing a frame
-          → returned (of_frame_return (Err (NotWritten r))) frame₁ out ≡ frame_trip a back frame out
-      go (writing.refusal n v) g =
-          let f = ap (λ c. c.answer) g in
-          let i : write_number r ≡ n = cc in
-          let j : write_value r ≡ v = cc in
-          joined (ap₂ refused i j) (ap (λ c. c.output) g) refl
-      go (writing.written l) g =
-          let f = ap (λ c. c.answer) g in
-          absurd (let z : ◌≡◌ {A = ℕ} 0 1 = cc in omega arith)
 
   -- the first bits are the frame
   pub record WrittenFrame (n : ℕ) (frame₁ : List ℕ) : Type 0 where

@@ -1,4 +1,3 @@
-pub mod Mapped
 pub mod Passing
 pub mod Register
 pub mod Flags

@@ -1,19 +1,13 @@
 -- Comparing decides: parts are told from the start of a list one after the other, and a test that failed denies the whole. Assumes nothing.
 use mathlib.Core.Path.{◌≡◌, refl, sym, ap, ap₂, ◌∙◌}
-use Prim.Native.Nat.{ℕ, suc, ◌+◌, ◌-◌, ◌<◌}
+use Prim.Native.Nat.{ℕ, ◌+◌, ◌-◌}
 use native.Mathlib.Omega.{arith}
 use mathlib.Core.Bool.{Bool, true, false}
-use mathlib.Core.List.{List, [], ◌∷◌, ◌++◌}
-use lib.ListN.{length, take, drop, get_or}
+use mathlib.Core.List.{List, ◌++◌}
+use lib.ListN.{length, take, drop}
 use lib.Seq.{take-add, take-take, take_at, drop_at}
-use Rattle.bits.specs.Bytes.{Bytes}
 use Rattle.std.specs.Bool.{Decides}
 use Rattle.roundtrip.specs.Returns.{Returned, returned}
-
--- the elements of a slice are bytes
-pub bytes_of : (bs : List ℕ) → ((i : ℕ) → get_or bs i 0 < 256) → Bytes bs
-bytes_of [] small = tt
-bytes_of (b ∷ bs) small = (small 0, bytes_of bs (λ i. small (suc i)))
 
 -- an answer, a line and an output, each by the rule
 pub joined : {a a₁ : Returned} {l l₁ o o₁ : List ℕ} → a ≡ a₁ → l ≡ l₁ → o ≡ o₁ → returned a l o ≡ returned a₁ l₁ o₁

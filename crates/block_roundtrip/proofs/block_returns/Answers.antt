@@ -5,7 +5,7 @@ use lib.Seq.{length-take-le}
 use Rattle.std.proofs.Common.{Err}
 use Rattle.std.proofs.lemmas.Result.{err_from_is_err_and}
 use Rattle.roundtrip.specs.Returns.{returned}
-use Rattle.roundtrip.proofs.Mapped.{value_kept, error_mapped}
+use Rattle.bits.proofs.Mapped.{value_kept, error_mapped}
 use Rattle.block_roundtrip.specs.Returns.{of_block_return}
 use Rattle.block_roundtrip.proofs.Returns.{written_line, taken_back, taken_returns, refused_returns}
 use Rattle.block_roundtrip.proofs.block_returns.Goals as goal

@@ -4,8 +4,8 @@ use mathlib.Core.Path.{ap, ◌∙◌}
 use Rattle.std.proofs.Common.{Err}
 use Rattle.std.proofs.lemmas.Result.{err_from_is_err_and}
 use Rattle.roundtrip.specs.Returns.{returned}
-use Rattle.roundtrip.proofs.Comparing.{bytes_of}
-use Rattle.roundtrip.proofs.Mapped.{value_kept, error_mapped}
+use Rattle.bits.proofs.Bytes.{bytes_of}
+use Rattle.bits.proofs.Mapped.{value_kept, error_mapped}
 use Rattle.frame_roundtrip.specs.Returns.{of_frame_return}
 use Rattle.frame_roundtrip.proofs.Returns.{written_frame, taken_back, taken_returns, refused_returns}
 use Rattle.frame_roundtrip.proofs.frame_returns.Goals as goal

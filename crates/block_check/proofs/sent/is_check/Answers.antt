@@ -2,7 +2,8 @@
 use Rattle.std.proofs.Common.{◌∙◌}
 use Rattle.block_check.specs.Numbers.{check_from}
 use Rattle.block_check.proofs.NumberLaws.{whole_bytes}
-use Rattle.block_check.proofs.Received.{bytes_of, received}
+use Rattle.bits.proofs.Bytes.{bytes_of}
+use Rattle.block_check.proofs.Received.{received}
 use Rattle.block_check.proofs.sent.is_check.Goals as goal
 
 pub returns : goal.returns

@@ -8,7 +8,7 @@ use Rattle.std.proofs.lemmas.Result.{err_from_is_err_and}
 use Rattle.line_ends.specs.Last.{ReadsLast}
 use Rattle.frame_walk.specs.Steps.{zero_missing_at}
 use Rattle.frame_walk.specs.Walk.{of_walk}
-use Rattle.frame_walk.proofs.Mapped.{value_kept, error_mapped}
+use Rattle.bits.proofs.Mapped.{value_kept, error_mapped}
 use Rattle.frame_walk.proofs.Passing.{last_missing, last_part, last_byte}
 use Rattle.frame_walk.proofs.Line.last.Goals as goal
 

@@ -8,7 +8,7 @@ use Rattle.std.proofs.lemmas.Result.{err_from_is_err_and}
 use Rattle.zero_removal.specs.Removal.{Receives}
 use Rattle.frame_walk.specs.Steps.{zero_missing_at}
 use Rattle.frame_walk.specs.Walk.{of_walk}
-use Rattle.frame_walk.proofs.Mapped.{value_kept, error_mapped}
+use Rattle.bits.proofs.Mapped.{value_kept, error_mapped}
 use Rattle.frame_walk.proofs.Passing.{pass_begin, pass_missing, pass_turn, pass_part}
 use Rattle.frame_walk.proofs.Line.pass.Goals as goal
 use Rattle.frame_walk.proofs.Line.pass.Goals.{in-Some, in_default}
