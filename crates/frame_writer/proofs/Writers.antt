@@ -177,9 +177,6 @@ pub record Counting (start : ZeroCount) (bits : List Bool) (c : ZeroCount) (rest
   pub run_is : run_after (run_before c.before) rest ≡ run_after (run_before start.before) bits
   pub few : 4 * c.zeros + length rest ≤ 4 * start.zeros + length bits
 
-pub count_begin : (start : ZeroCount) (s : List Bool) → Counting start s start s
-count_begin start s = record { zeros_are = refl; run_is = refl; few = omega arith }
-
 -- a byte has two zeros at most
 pub count_one : {c r : ZeroCount} (byte : ℕ) {s : SentByte} → Sends c.before byte s → r.zeros ≡ c.zeros + s.zeros → r.before ≡ s.before
     → Counts c (low_bits 8 byte) r
