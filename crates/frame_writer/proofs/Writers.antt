@@ -42,7 +42,11 @@ module _ (out : List ℕ) (w : BitWriter) (byte : ℕ) {s : SentByte} (e : Sends
   length-bits : length bits ≡ 8 + s.zeros
   length-bits = sent-length e
 
-  pub word-or : bit_or w.held (s.bits * 2 ^ w.place % 4294967296) ≡ word
+  -- the same as code makes it
+  abbrev code_word : ℕ
+  code_word = bit_or w.held (s.bits * 2 ^ w.place % 4294967296)
+
+  word-or : code_word ≡ word
   word-or = joined-or w.place w.held (8 + s.zeros) s.bits w.held_small e.bits_small (omega (arith, e.few, w.place_small))
 
   word_small : word < 2 ^ (left + 8)
@@ -64,37 +68,37 @@ module _ (out : List ℕ) (w : BitWriter) (byte : ℕ) {s : SentByte} (e : Sends
   stored_once : (t : List Bool) → stored out w (bits ++ t) ≡ sets (set out w.index (word % 256)) (w.index + 1) (pack (low_bits left (word / 256) ++ t))
   stored_once t = ap (λ z. sets out w.index (pack z)) (word_bits_lem t) ∙ store_byte out w.index word (low_bits left (word / 256) ++ t)
 
-  module _ {h b : ℕ} (eh : h ≡ word) (eb : b ≡ h % 256) where
-    pub once_small : h / 256 < 2 ^ left
-    once_small = rw eh (rest_small left word_small)
+  pub once_small : code_word / 256 < 2 ^ left
+  once_small = rw word-or (rest_small left word_small)
 
-    pub plain_small : s.zeros ≡ 0 → h / 256 < 2 ^ w.place
-    plain_small z = let q : left ≡ w.place = omega arith in subst (λ (p : ℕ). h / 256 < 2 ^ p) q once_small
+  pub plain_small : s.zeros ≡ 0 → code_word / 256 < 2 ^ w.place
+  plain_small z = let q : left ≡ w.place = omega arith in subst (λ (p : ℕ). code_word / 256 < 2 ^ p) q once_small
 
-    pub put_once : left < 8 → {r : BitWriter} → r.index ≡ w.index + 1 → r.place ≡ left → r.held ≡ h / 256 → r.before ≡ s.before
+  abbrev twice : ℕ
+  twice = left - 8
+
+  word_again : word / 256 / 256 ≡ word / 65536
+  word_again = shr-shr word 8 8
+
+  pub twice_small : 8 ≤ left → code_word / 65536 < 2 ^ twice
+  twice_small l =
+      let q : left ≡ twice + 8 = omega arith in
+      let small : word / 256 < 2 ^ (twice + 8) = subst (λ (k : ℕ). word / 256 < 2 ^ k) q (rest_small left word_small) in
+      rw word-or (subst (λ (k : ℕ). k < 2 ^ twice) word_again (rest_small twice small))
+
+  module _ {b : ℕ} (eb : b ≡ code_word % 256) where
+    pub put_once : left < 8 → {r : BitWriter} → r.index ≡ w.index + 1 → r.place ≡ left → r.held ≡ code_word / 256 → r.before ≡ s.before
         → Puts out w (low_bits 8 byte) (set out w.index b) r
     put_once l ei ep er es =
         record {
           index_is = omega (arith, ei, length-bits, w.place_small);
           place_is = omega (arith, ep, length-bits, w.place_small);
           run_is = ap run_before es ∙ sym e.run_is;
-          rest = λ t. rw (ei, ep, er, eb, eh) (sym (stored_once t));
+          rest = λ t. rw (ei, ep, er, eb, word-or) (sym (stored_once t));
         }
 
-    abbrev twice : ℕ
-    twice = left - 8
-
-    word_again : word / 256 / 256 ≡ word / 65536
-    word_again = shr-shr word 8 8
-
-    pub twice_small : 8 ≤ left → h / 65536 < 2 ^ twice
-    twice_small l =
-        let q : left ≡ twice + 8 = omega arith in
-        let small : word / 256 < 2 ^ (twice + 8) = subst (λ (k : ℕ). word / 256 < 2 ^ k) q (rest_small left word_small) in
-        rw eh (subst (λ (k : ℕ). k < 2 ^ twice) word_again (rest_small twice small))
-
-    pub put_twice : 8 ≤ left → {d : ℕ} → d ≡ h / 256 % 256
-        → {r : BitWriter} → r.index ≡ w.index + 2 → r.place ≡ twice → r.held ≡ h / 65536 → r.before ≡ s.before
+    pub put_twice : 8 ≤ left → {d : ℕ} → d ≡ code_word / 256 % 256
+        → {r : BitWriter} → r.index ≡ w.index + 2 → r.place ≡ twice → r.held ≡ code_word / 65536 → r.before ≡ s.before
         → Puts out w (low_bits 8 byte) (set (set out w.index b) (w.index + 1) d) r
     put_twice l {d} ed ei ep er es =
         let two : w.index + 1 + 1 ≡ w.index + 2 = omega arith in
@@ -105,7 +109,7 @@ module _ (out : List ℕ) (w : BitWriter) (byte : ℕ) {s : SentByte} (e : Sends
           run_is = ap run_before es ∙ sym e.run_is;
           rest = λ t.
               let o = set out w.index (word % 256) in
-              rw (ei, ep, er, ed, eb, eh)
+              rw (ei, ep, er, ed, eb, word-or)
               (sym (stored_once t
               ∙ ap (λ z. sets o (w.index + 1) (pack (z ++ t))) (ap (λ k. low_bits k (word / 256)) (sym r) ∙ byte-bits twice (word / 256))
               ∙ ap (λ z. sets o (w.index + 1) (pack z)) (append_assoc (low_bits 8 (word / 256)) (low_bits twice (word / 256 / 256)) t)
@@ -176,9 +180,6 @@ pub record Counting (start : ZeroCount) (bits : List Bool) (c : ZeroCount) (rest
   pub zeros_are : c.zeros + length (stuff (run_before c.before) rest) + length bits ≡ start.zeros + length (stuff (run_before start.before) bits) + length rest
   pub run_is : run_after (run_before c.before) rest ≡ run_after (run_before start.before) bits
   pub few : 4 * c.zeros + length rest ≤ 4 * start.zeros + length bits
-
-pub count_begin : (start : ZeroCount) (s : List Bool) → Counting start s start s
-count_begin start s = record { zeros_are = refl; run_is = refl; few = omega arith }
 
 -- a byte has two zeros at most
 pub count_one : {c r : ZeroCount} (byte : ℕ) {s : SentByte} → Sends c.before byte s → r.zeros ≡ c.zeros + s.zeros → r.before ≡ s.before

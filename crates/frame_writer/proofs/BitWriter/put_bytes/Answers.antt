@@ -2,12 +2,9 @@
 use Prim.Native.Nat.{◌+◌}
 use lib.ListN.{drop, get_or}
 use Rattle.bits.specs.Bytes.{low_bits, bits_of}
-use Rattle.frame_writer.proofs.Writers.{put_begin, room, put_turn, put_whole}
+use Rattle.frame_writer.proofs.Writers.{room, put_turn, put_whole}
 use Rattle.frame.proofs.Words.{bits_of_on, bits_of-none}
 use Rattle.frame_writer.proofs.BitWriter.put_bytes.Goals as goal
-
-pub loop-byte-init : goal.loop-byte-init
-loop-byte-init c = put_begin c.args.out.now c.args.self (bits_of c.args.bytes.now)
 
 pub put_byte-w-requires : goal.put_byte-w-requires
 put_byte-w-requires c =
@@ -21,9 +18,6 @@ loop-byte-preserved c =
     let v = c.loop-byte in
     let bytes = c.args.bytes.now in
     put_turn (low_bits 8 (get_or bytes v.byte-index 0)) v.invariant (bits_of_on bytes v.byte-index c.loop-byte-test.true) p.ensures p.auto.out
-
-pub shape_of-out : goal.shape_of-out
-shape_of-out c = c.loop-byte.invariant.same
 
 pub returns : goal.returns
 returns c =

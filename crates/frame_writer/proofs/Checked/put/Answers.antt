@@ -40,10 +40,6 @@ put_flag-requires c =
       omega (arith, c.args.self.content_small, c.args.self.check_small),
     )
 
-pub shape_of-out : goal.shape_of-out
-shape_of-out c =
-    c.put_flag.auto.out ∙ c.put_bytes-tail.auto.out ∙ c.put_bytes-body.auto.out ∙ length-set c.args.out.now 0 0x7E
-
 pub returns : goal.returns
 returns c =
     let p = c.put_bytes-body in

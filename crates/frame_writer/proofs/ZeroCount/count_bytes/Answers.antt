@@ -1,14 +1,10 @@
 -- `count_bytes` meets its contract: a turn counts the zeros of the next byte. Assumes nothing.
 use native.Mathlib.Omega.{arith}
 use lib.ListN.{drop, get_or, length-drop}
-use Rattle.bits.specs.Bytes.{bits_of}
 use Rattle.bits.proofs.Bytes.{length-bits_of}
-use Rattle.frame_writer.proofs.Writers.{count_begin, count_turn, count_whole}
+use Rattle.frame_writer.proofs.Writers.{count_turn, count_whole}
 use Rattle.frame.proofs.Words.{bits_of_on, bits_of-none}
 use Rattle.frame_writer.proofs.ZeroCount.count_bytes.Goals as goal
-
-pub loop-byte-init : goal.loop-byte-init
-loop-byte-init c = count_begin c.args.self (bits_of c.args.bytes.now)
 
 pub count_byte-count-requires : goal.count_byte-count-requires
 count_byte-count-requires c =
