@@ -1,5 +1,4 @@
 -- Runs of data: the bytes that a field passes over without a change. Assumes nothing.
-use Rattle.std.specs.Prelude.{ℕ, ◌≤◌, ◌<◌}
 use Rattle.block.specs.declared.Mark.{Mark}
 use Rattle.block.specs.declared.Mark.TheVariants.{LeftOut, HeaderByte, TextByte}
 use Rattle.block.specs.declared.Field.{Field}
@@ -14,9 +13,3 @@ data_mark HeaderDle = LeftOut
 data_mark Text = TextByte
 data_mark Clear = TextByte
 data_mark ClearDle = LeftOut
-
--- what holds of every place from `from` up to `end`
-pub record Run (P : ℕ → Type 0) (size from end : ℕ) : Type 0 where
-  pub on : from ≤ end
-  pub within : end ≤ size
-  pub all : (k : ℕ) → from ≤ k → k < end → P k
