@@ -23,11 +23,5 @@ impl From<Shape> for usize {
 pub fn is_clear(s: Shape) -> bool
     ensures { result ≡ is_clear s }
 {
-    match s {
-        Shape::Header => false,
-        Shape::Text => false,
-        Shape::HeaderText => false,
-        Shape::ClearText => true,
-        Shape::HeaderClearText => true,
-    }
+    matches!(s, Shape::ClearText | Shape::HeaderClearText)
 }

@@ -46,10 +46,5 @@ pub fn character(seven: bool, b: u8) -> u8
 pub fn is_seven(m: Method) -> bool
     ensures { result ≡ rule.is_seven m }
 {
-    match m {
-        Method::Parity => true,
-        Method::Matrix => true,
-        Method::Cyclic => false,
-        Method::CyclicAlternative => false,
-    }
+    matches!(m, Method::Parity | Method::Matrix)
 }
