@@ -113,8 +113,8 @@ module _ (m : Method) (p : Parity) (line : List ℕ) (r : Segments) (q : framed 
   needed : r.header + r.text ≡ output_length parts
   needed = ap₂ (λ i j. i + j) header-length text-length
 
-  pub counts_kept : {seven : Bool} → seven ≡ is_seven m → CountsKept seven r line
-  counts_kept e = subst (λ (s : Bool). CountsKept s r line) (sym e) record { header = carried.headers ∙ tally.headers ∙ ap length finds.headers; text = carried.texts ∙ tally.texts ∙ ap length finds.texts }
+  pub counts_kept : CountsKept (is_seven m) r line
+  counts_kept = record { header = carried.headers ∙ tally.headers ∙ ap length finds.headers; text = carried.texts ∙ tally.texts ∙ ap length finds.texts }
 
   -- ---- what a taken block answers and puts out
 
@@ -164,11 +164,11 @@ module _ (m : Method) (p : Parity) (line : List ℕ) (r : Segments) (q : framed 
           (right-check ∙ ap (λ t. cond t (taken parts) (rule.refusal 19 (output_length parts))) (lt-leb (output_length parts) (length out) (omega (arith, needed)))
           ∙ ap (rule.refusal 19) (sym needed))
 
-      pub is_taken : r.header + r.text ≤ length out → {seven : Bool} {numbers : Numbers} {after : List ℕ} → seven ≡ is_seven m → numbers ≡ held_by r
-          → after ≡ sets out 0 (map (character seven) (header_in seven r line ++ text_in seven r line))
+      pub is_taken : r.header + r.text ≤ length out → {numbers : Numbers} {after : List ℕ} → numbers ≡ held_by r
+          → after ≡ sets out 0 (map (character (is_seven m)) (header_in (is_seven m) r line ++ text_in (is_seven m) r line))
           → called numbers after ≡ read_call m p line out
-      is_taken h i n s =
-          ap₂ called (n ∙ taken_numbers) (taken_output out h (s ∙ ap (λ b. sets out 0 (map (character b) (header_in b r line ++ text_in b r line))) i))
+      is_taken h n s =
+          ap₂ called (n ∙ taken_numbers) (taken_output out h s)
           ∙ sym (ap (λ z. after_reading z out) (right-check ∙ ap (λ t. cond t (taken parts) (rule.refusal 19 (output_length parts))) (le-leb (output_length parts) (length out) (omega (arith, needed)))))
 
 -- ---- what the walk answers

@@ -3,6 +3,24 @@
 // bytes of header and text.
 #![tactic(auto)]
 
+ghost use Rattle.std.specs.Prelude.{length};
+ghost use Rattle.block.specs.Characters.{is_seven};
+ghost use Rattle.block_framing.specs.Framings.{Ordered};
+ghost use Rattle.block_reader.specs.Counts.{CountsKept};
+
+use block::Link;
+use block_framing::Segments;
+
+// A line of a link and the segments that were found in it.
+#[derive(Clone, Copy)]
+pub(crate) struct FramedLine<'a> {
+    pub link: Link,
+    pub segments: Segments,
+    pub line: &'a [u8],
+    ghost ordered: { Ordered segments (length line.now) },
+    ghost counts_kept: { CountsKept (is_seven link.method) segments line.now },
+}
+
 mod check;
 mod parts;
 mod read;

@@ -1,13 +1,17 @@
 -- `read_framed` meets its contract: questions 18 and 19, then header and text handed out. Assumes nothing.
-use mathlib.Core.Path.{refl}
 use native.Mathlib.Omega.{arith}
 use Rattle.block_reader.proofs.ReadBlock.{ordered, lengths_small, counts_kept, wrong_check, output_short, is_taken}
 use Rattle.block_reader.proofs.read.read_framed.Goals as goal
 
-pub check_right-requires : goal.check_right-requires
-check_right-requires c =
+pub invariant_of-framed-clause-ordered : goal.invariant_of-framed-clause-ordered
+invariant_of-framed-clause-ordered c =
     let a = c.args in
-    record { ordered = ordered a.link.method a.link.parity a.line.now a.f c.requires; counts_kept = counts_kept a.link.method a.link.parity a.line.now a.f c.requires refl }
+    ordered a.link.method a.link.parity a.line.now a.f c.requires
+
+pub invariant_of-framed-clause-counts_kept : goal.invariant_of-framed-clause-counts_kept
+invariant_of-framed-clause-counts_kept c =
+    let a = c.args in
+    counts_kept a.link.method a.link.parity a.line.now a.f c.requires
 
 pub returns-then-not-check_right : goal.returns-then-not-check_right
 returns-then-not-check_right c =
@@ -25,12 +29,7 @@ returns-then-needed-out c =
     let a = c.args in
     output_short a.link.method a.link.parity a.line.now a.f c.requires a.out.now c.check_right.ensures c.if-not-check_right.false c.if-needed-out.true
 
-pub hand_out-requires : goal.hand_out-requires
-hand_out-requires c =
-    let a = c.args in
-    record { ordered = ordered a.link.method a.link.parity a.line.now a.f c.requires; counts_kept = counts_kept a.link.method a.link.parity a.line.now a.f c.requires c.is_seven.ensures }
-
 pub returns : goal.returns
 returns c =
     let a = c.args in
-    is_taken a.link.method a.link.parity a.line.now a.f c.requires a.out.now c.check_right.ensures c.if-not-check_right.false c.if-needed-out.false c.is_seven.ensures c.held-block.ensures c.hand_out.ensures
+    is_taken a.link.method a.link.parity a.line.now a.f c.requires a.out.now c.check_right.ensures c.if-not-check_right.false c.if-needed-out.false c.held-block.ensures c.hand_out.ensures
