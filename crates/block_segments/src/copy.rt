@@ -9,7 +9,8 @@ use crate::Segment;
 use crate::kept::Keeping;
 use block::character;
 
-// Stores b at n where the output has that place, and answers the next place.
+// Stores b at n where the output has that place, and answers the next place, whether it has or not (`store_one` of block_store stays
+// at the end).
 fn put(out: &mut [u8], n: usize, b: u8) -> usize
     requires { n < 18446744073709551615 }
     ensures { (result ≡ n + 1) × (out.new ≡ sets out.old n (b ∷ [])) }

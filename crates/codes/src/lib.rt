@@ -1,6 +1,6 @@
 // The codes of the C calls, as methods, parities, shapes and end signs: document 01's numbers of methods and shapes, 0 and 1 for
-// parity, the bytes of the end signs. Every number is taken: one outside its list is none of them. The types stand in crates `block`
-// and `frame`, which know no codes, so the conversions are functions here and no `TryFrom`.
+// parity, the bytes of the end signs. Every number is taken: one outside its list is none of them. They stand here together, as the
+// list of what C may pass, and not as a `TryFrom` beside each type in `block` and `frame`.
 #![tactic(auto)]
 
 ghost use Rattle.std.specs.Prelude.{◌≡◌};

@@ -25,7 +25,7 @@ pub use numbers::corridor_receive;
 // The number of a code outside its list.
 pub(crate) const UNKNOWN_CODE: u32 = 1;
 
-// The four checks are calls of their own, since each is exported to C under its own name.
+// The four checks are calls of their own: C has a name for each (crate corridor_c), and each contract gives its own method's check.
 pub fn corridor_check_3(content: &[u8]) -> u16
     ensures { low_bits 16 result ≡ check_bits method3 (bits_of content.now) }
 {

@@ -43,7 +43,8 @@ pub trait Generator {
     fn enter_word(register: Self::Register, word: u64) -> Self::Register
         ensures { register_bits result ≡ enter generator (register_bits register) (low_bits 64 word) };
 
-    // A register is what is yet to be added to the first word.
+    // A register is what is yet to be added to the first word. What is pending is an array of a length that each generator fixes, so it
+    // is begun and moved on by literals, where a body for every length would move its words in a loop.
     fn begin(register: Self::Register) -> Self::Pending
         ensures { FoldedAll generator PENDING (register_bits register) [] (pending_words result) };
 

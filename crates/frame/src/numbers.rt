@@ -8,7 +8,8 @@ use cyclic6::Cyclic6;
 
 pub const FLAG: u8 = 0x7E;
 
-// The bytes of content at most. This and the width below each name one constant of the method's type, so they are two.
+// The bytes of content at most. This, the width below and the residue of frame_framing each name one constant of the method's type;
+// a function from a method to the type itself would take a struct of all its constants.
 pub fn limit(m: FrameMethod) -> usize
     ensures { result ≡ (parameters_of m).limit }
 {
