@@ -10,17 +10,9 @@ pub fn received(answer: Result<Verdict, NumberRefusal>) -> VerdictNumbers
     ensures { result ≡ verdict_numbers (verdict_of answer) }
 {
     match answer {
-        Ok(Verdict::New) => VerdictNumbers {
+        Ok(verdict) => VerdictNumbers {
             number: 0,
-            verdict: 1,
-        },
-        Ok(Verdict::Repeat) => VerdictNumbers {
-            number: 0,
-            verdict: 2,
-        },
-        Ok(Verdict::Lost) => VerdictNumbers {
-            number: 0,
-            verdict: 3,
+            verdict: u8::from(verdict),
         },
         Err(refusal) => VerdictNumbers {
             number: u32::from(refusal),

@@ -56,23 +56,17 @@ pub fn write_frame(
     if content.len() > limit(method) {
         return Err(WriteRefusal::TooLong);
     }
-    // Each arm keeps the bytes of its check: the borrow checker takes no slice, chosen here, of an array that only one arm has.
+    // The checks are arrays of two lengths. Each arm writes, since the borrow checker takes no slice, chosen here, of an array of one arm.
     match method {
-        FrameMethod::Cyclic16 => {
-            let check = sent16(Cyclic5::check_of(content));
-            let frame = Checked {
-                content,
-                check: &check,
-            };
-            frame.write(&mut *out)
+        FrameMethod::Cyclic16 => Checked {
+            content,
+            check: &sent16(Cyclic5::check_of(content)),
         }
-        FrameMethod::Cyclic32 => {
-            let check = sent32(Cyclic6::check_of(content));
-            let frame = Checked {
-                content,
-                check: &check,
-            };
-            frame.write(&mut *out)
+        .write(&mut *out),
+        FrameMethod::Cyclic32 => Checked {
+            content,
+            check: &sent32(Cyclic6::check_of(content)),
         }
+        .write(&mut *out),
     }
 }

@@ -1,4 +1,4 @@
--- Document 01's number and values for each case of the answer. Assumes nothing.
+-- Document 01's number and values for each case of the answer, and the number of a verdict. Assumes nothing.
 use Rattle.std.specs.Prelude.{ℕ, Result, Ok, Err}
 use Rattle.number.specs.declared.NumberRefusal.{NumberRefusal}
 use Rattle.number.specs.declared.NumberRefusal.TheVariants as refusal
@@ -12,6 +12,12 @@ number_of refusal.Modulus = 41
 number_of refusal.Window = 51
 number_of refusal.Awaited = 42
 number_of refusal.Received = 43
+
+-- as the C library and the programs answer it
+abbrev pub verdict_number : answer.Verdict → ℕ
+verdict_number New = 1
+verdict_number Repeat = 2
+verdict_number Lost = 3
 
 abbrev pub verdict_of : Result answer.Verdict NumberRefusal → Verdict
 verdict_of (Ok New) = new

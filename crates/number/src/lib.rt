@@ -4,7 +4,7 @@
 
 ghost use Rattle.std.specs.Prelude.{◌≡◌, ◌^◌, ◌<◌, ◌≤◌};
 ghost use Rattle.number.specs.Number.{difference, judged, outcome, receiving, refused};
-ghost use Rattle.number.specs.Answers.{number_of, outcome_of};
+ghost use Rattle.number.specs.Answers.{number_of, outcome_of, verdict_number};
 
 // What a receiving station keeps: sequence numbers run modulo 2^n, w is the link's window, the most blocks that the far station has
 // on the way, and c is the number that is awaited.
@@ -46,6 +46,19 @@ pub enum Verdict {
     New,
     Repeat,
     Lost,
+}
+
+// The number of a verdict in an answer.
+impl From<Verdict> for u8 {
+    ghost from_gives = { λ verdict number. number ≡ verdict_number verdict };
+
+    fn from(verdict: Verdict) -> u8 {
+        match verdict {
+            Verdict::New => 1,
+            Verdict::Repeat => 2,
+            Verdict::Lost => 3,
+        }
+    }
 }
 
 // The answer and the record after it.

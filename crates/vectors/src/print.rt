@@ -13,13 +13,13 @@ pub fn print_written(
     rt: &impl Print,
     label: &str,
     word: &str,
-    written: Option<usize>,
     numbers: ValueNumbers,
 ) -> io::Result<()> {
-    match written {
-        Some(value) => println!(rt; "{label} {word} {value}"),
-        None => print_refused(rt, label, numbers.number, numbers.value),
+    let ValueNumbers { number, value } = numbers;
+    if number == 0 {
+        return println!(rt; "{label} {word} {value}");
     }
+    print_refused(rt, label, number, value)
 }
 
 // The lengths of header and text, and the counted number.

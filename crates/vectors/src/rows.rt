@@ -23,7 +23,6 @@ pub fn row_13(rt: &impl Print) -> io::Result<()> {
         rt,
         "row 13, write FF, method 6:",
         "bits",
-        written.ok(),
         frame_written(written),
     )
 }
@@ -54,7 +53,6 @@ pub fn row_16_taken(rt: &impl Print) -> io::Result<()> {
         rt,
         "row 16, write counted 4096:",
         "written",
-        written.ok(),
         block_written(written),
     )?;
     let read = read_block(even(Method::Cyclic), &line, &mut out);
@@ -70,7 +68,6 @@ pub fn row_16_refused(rt: &impl Print) -> io::Result<()> {
         rt,
         "row 16, write counted 4097:",
         "written",
-        written.ok(),
         block_written(written),
     )?;
     line[0] = STX;

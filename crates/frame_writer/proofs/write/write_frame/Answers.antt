@@ -20,18 +20,18 @@ returns-then-content-limit c =
     let some = eqb-false _ 0 (sym c.is_empty.ensures ∙ c.if-is_empty.false) in
     too_long (parameters_of a.method) a.content.now a.out.now (omega arith) (omega arith)
 
-pub invariant_of-frame : goal.invariant_of-frame
-invariant_of-frame c =
+pub invariant_of-write : goal.invariant_of-write
+invariant_of-write c =
     record {
       content_small = omega (arith, c.if-content-limit.false, c.limit.ensures, (sizes c.args.method).limit_small);
-      check_small = omega (arith, length-sent 2 c.check_of.result c.sent16-check.ensures);
+      check_small = omega (arith, length-sent 2 c.check_of.result c.sent16.ensures);
     }
 
-pub invariant_of-frame-in-Cyclic32 : goal.invariant_of-frame-in-Cyclic32
-invariant_of-frame-in-Cyclic32 c =
+pub invariant_of-write-in-Cyclic32 : goal.invariant_of-write-in-Cyclic32
+invariant_of-write-in-Cyclic32 c =
     record {
       content_small = omega (arith, c.if-content-limit.false, c.limit.ensures, (sizes c.args.method).limit_small);
-      check_small = omega (arith, length-sent 4 c.check_of-in-Cyclic32.result c.sent32-check.ensures);
+      check_small = omega (arith, length-sent 4 c.check_of-in-Cyclic32.result c.sent32.ensures);
     }
 
 pub returns-in-Cyclic16 : goal.returns-in-Cyclic16
@@ -41,7 +41,7 @@ returns-in-Cyclic16 c =
     let l = rw e at c.limit.ensures in
     let some = eqb-false _ 0 (sym c.is_empty.ensures ∙ c.if-is_empty.false) in
     rw e
-    (within_limit method5 a.content.now a.out.now 2 c.check_of.result (omega arith) (omega arith) c.check_of.ensures c.sent16-check.ensures
+    (within_limit method5 a.content.now a.out.now 2 c.check_of.result (omega arith) (omega arith) c.check_of.ensures c.sent16.ensures
     c.write.ensures)
 
 pub returns-in-Cyclic32 : goal.returns-in-Cyclic32
@@ -51,5 +51,5 @@ returns-in-Cyclic32 c =
     let l = rw e at c.limit.ensures in
     let some = eqb-false _ 0 (sym c.is_empty.ensures ∙ c.if-is_empty.false) in
     rw e
-    (within_limit method6 a.content.now a.out.now 4 c.check_of-in-Cyclic32.result (omega arith) (omega arith) c.check_of-in-Cyclic32.ensures c.sent32-check.ensures
+    (within_limit method6 a.content.now a.out.now 4 c.check_of-in-Cyclic32.result (omega arith) (omega arith) c.check_of-in-Cyclic32.ensures c.sent32.ensures
     c.write-in-Cyclic32.ensures)
