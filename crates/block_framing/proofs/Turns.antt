@@ -50,15 +50,6 @@ start_is seven line e = omega (arith, e, fill_from seven 0 line)
 pub start-within : (seven : Bool) (line : List ℕ) {r : ℕ} → r ≡ first_failing (is_fill seven) 0 line → r ≤ length line
 start-within seven line e = omega (arith, e, (reached (is_fill seven) 0 line).within)
 
-pub signs_few : (f : Field) → text_signs f ≤ 2
-signs_few Start = omega arith
-signs_few StartDle = omega arith
-signs_few Header = omega arith
-signs_few HeaderDle = omega arith
-signs_few Text = omega arith
-signs_few Clear = omega arith
-signs_few ClearDle = omega arith
-
 -- ---- what is kept stays below the place
 
 small_first : (o : Option FirstInnerStart) (i all : ℕ) → place_of o ≤ i → place_of (option_or o (Some (record { at = i; before = all }))) ≤ i + 1
@@ -72,9 +63,6 @@ small_leave TextByte t i s = record { inner = omega (arith, s.inner); all = omeg
 small_leave InnerStart t i s = record { inner = small_first t.inner i t.all s.inner; all = omega (arith, s.all) }
 small_leave End t i s = record { inner = omega (arith, s.inner); all = omega (arith, s.all) }
 
-pub small_widen : (t : LeftOuts) (i n : ℕ) → i ≤ n → Small t i → Small t n
-small_widen t i n h s = record { inner = omega (arith, s.inner); all = omega (arith, s.all) }
-
 -- ---- the invariant: what is left of the walk gives the whole
 
 pub record Walking (seven : Bool) (line : List ℕ) (t : LeftOuts) (f : Field) (i : ℕ) : Type 0 where
@@ -84,9 +72,6 @@ pub record Walking (seven : Bool) (line : List ℕ) (t : LeftOuts) (f : Field) (
   pub rest : walk_answer (start_of seven line) t i (walk seven (drop i line) i f) ≡ walk_answer (start_of seven line) no_left_outs 0 (walk seven line 0 Start)
 
 module _ {seven : Bool} {line : List ℕ} {t : LeftOuts} {f : Field} {i : ℕ} (w : Walking seven line t f i) where
-  pub small_enough : Small t 16384
-  small_enough = small_widen t i 16384 (omega (arith, w.within, w.size)) w.small
-
   module _ (below : i < length line) {c : ℕ} {j : Judged} (char : c ≡ character seven (get_or line i 0)) (judged : j ≡ judge seven f (sign_of c)) where
     -- the byte at i, then the walk from i + 1 on
     pub turned : (k : Judged) → j ≡ k

@@ -35,6 +35,7 @@ pub struct Segments {
     pub after: usize,
 }
 
+mod ending;
 mod questions;
 mod walk;
 

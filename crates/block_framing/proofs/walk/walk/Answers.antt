@@ -1,7 +1,7 @@
 -- `walk` meets its contract. The loop's invariant: what is left of the walk gives the whole. The measure is what is left of the line. Assumes nothing.
 use Prim.Native.Nat.{◌+◌}
 use native.Mathlib.Omega.{arith}
-use Rattle.block_framing.proofs.Turns.{small_enough, on, run-within, pass, ends, start-within, signs_few}
+use Rattle.block_framing.proofs.Turns.{on, run-within, pass, ends, start-within}
 use Rattle.block_framing.proofs.walk.walk.Goals as goal
 
 pub overflow_add-i : goal.overflow_add-i
@@ -13,14 +13,11 @@ loop-i-preserved c =
     pass c.args.seven c.in-Is.g c.args.line.now (c.loop-i.i + 1) (omega arith) c.data_run.ensures
     (on c.loop-i.invariant c.loop-i-test.true c.character.ensures c.judge.ensures c.in-Is.is c.leave-t.ensures)
 
-pub segments_at-requires : goal.segments_at-requires
-segments_at-requires c = (
-  small_enough c.loop-i.invariant,
-  omega (arith, start-within c.args.seven c.args.line.now c.fill_ahead-start.ensures, c.loop-i.invariant.size),
-  omega (arith, c.text_signs.ensures, signs_few c.loop-i.f),
-)
+pub invariant_of-ending-clause-start_small : goal.invariant_of-ending-clause-start_small
+invariant_of-ending-clause-start_small c =
+    omega (arith, start-within c.args.seven c.args.line.now c.fill_ahead.ensures, c.loop-i.invariant.size)
 
 pub returns-in-Ends : goal.returns-in-Ends
 returns-in-Ends c =
-    ends c.loop-i.invariant c.loop-i-test.true c.character.ensures c.judge.ensures c.in-Ends.is c.fill_ahead-start.ensures
-    c.text_signs.ensures c.segments_at.ensures
+    ends c.loop-i.invariant c.loop-i-test.true c.character.ensures c.judge.ensures c.in-Ends.is c.fill_ahead.ensures
+    c.text_signs.ensures c.segments.ensures
