@@ -12,8 +12,6 @@ use native.Mathlib.Omega.{arith}
 use lib.ListN.{length, take, drop, get_or, set, length-set, length-append}
 use lib.Seq.{sets, take_at, drop_at}
 use Rattle.std.specs.Prelude.{Some, None, Result, Ok, Err, IsOk}
-use Rattle.std.proofs.lemmas.List.{get_or-take}
-use Rattle.std.proofs.lemmas.Grind.{get_or_after_one}
 use Rattle.bits.specs.Bytes.{low_bits, bits_of, value, pack_into}
 use Rattle.bits.proofs.Bytes.{length-low_bits, value-low_bits}
 use Rattle.bits.proofs.WholeBytes.{pack_into_next, pack_into-none}
@@ -119,12 +117,6 @@ pub hand_room : (lent : List ℕ) (end n : ℕ) → end ≤ 8 * length lent → 
 hand_room lent end n fit h =
     let d = ap length (ap data_of (first-left (bits_of lent) end)) in
     byte-ahead lent end fit 1 first_reader first_fits.pending_small (omega (arith, d))
-
--- of the bytes behind the opening flag
-pub byte_between : (lent : List ℕ) (last i : ℕ) → i < last - 1 → get_or (take (last - 1) (drop 1 lent)) i 0 ≡ get_or lent (i + 1) 0
-byte_between lent last i h =
-    let e : 1 + i ≡ i + 1 = omega arith in
-    get_or-take (last - 1) (drop 1 lent) i 0 h ∙ get_or_after_one lent i 0 ∙ ap (λ k. get_or lent k 0) e
 
 -- the line holds all of them
 pub hand_all : {lent : List ℕ} {end n : ℕ} {first out : List ℕ} {r : LineReader} {index i : ℕ} → end ≤ 8 * length lent → HandingOut lent end n first out r index i

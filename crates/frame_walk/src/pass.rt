@@ -55,15 +55,12 @@ impl Line<'_> {
     pub(crate) fn pass(self, table: &[u32; 256], start: u32) -> Result<Walk, ReadRefusal>
         ensures { of_walk result ≡ passed table.now self.entry.end start 0 (unstuff 0 8 (slice 8 self.entry.end (bits_of self.entry.lent.now))) }
     {
-        let lent = self.lent;
-        let end = self.end;
         let mut register = start;
         let mut count: usize = 0;
         let mut r = LineReader::new();
-        // The index tells the place of a missing zero too, so the loop goes over indices and not over the bytes.
-        for index in 1..end / 8 {
-            let byte = lent[index];
-            let got = unstuff_byte(r.before, byte).map_err(|at| zero_missing(index, at))?;
+        // The bytes behind the opening flag, which is the first of the line.
+        for (i, byte) in self.lent[1..self.end / 8].iter().enumerate() {
+            let got = unstuff_byte(r.before, *byte).map_err(|at| zero_missing(i + 1, at))?;
             let read = read_bits(r, got);
             r = read.next;
             if let Some(whole) = read.byte {

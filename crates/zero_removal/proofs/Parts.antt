@@ -7,6 +7,8 @@ use native.Mathlib.Omega.{arith}
 use lib.Dec.{eqb, lit<}
 use lib.ListN.{length, take, drop, get_or, length-append}
 use lib.Seq.{slice, length-slice, take-add, take_at, drop_at}
+use Rattle.std.proofs.lemmas.List.{get_or-take}
+use Rattle.std.proofs.lemmas.Grind.{get_or_after_one}
 use Rattle.bits.specs.Bytes.{low_bits, bits_of}
 use Rattle.bits.proofs.Bytes.{length-low_bits, length-bits_of}
 use Rattle.zero_removal.specs.declared.LineReader.{LineReader}
@@ -205,3 +207,9 @@ first_fits = record { pending_small = omega arith; held_small = lit< tt; before_
 pub first-left : (bits : List Bool) (end : ℕ) → left_at bits end 1 first_reader ≡ unstuff 0 8 (slice 8 end bits)
 unfolding low_bits ones_before ones_through
 first-left bits end = in_front-none (unstuff 0 8 (slice 8 end bits))
+
+-- of the bytes behind the opening flag
+pub byte_between : (lent : List ℕ) (last i : ℕ) → i < last - 1 → get_or (take (last - 1) (drop 1 lent)) i 0 ≡ get_or lent (i + 1) 0
+byte_between lent last i h =
+    let e : 1 + i ≡ i + 1 = omega arith in
+    get_or-take (last - 1) (drop 1 lent) i 0 h ∙ get_or_after_one lent i 0 ∙ ap (λ k. get_or lent k 0) e

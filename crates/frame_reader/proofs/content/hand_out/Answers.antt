@@ -6,7 +6,8 @@ use lib.ListN.{take, drop, get_or}
 use Rattle.std.proofs.Common.{rules}
 use Rattle.zero_removal.specs.Removal.{Gives, Receives}
 use Rattle.zero_removal.specs.Reader.{ReadsByte}
-use Rattle.frame_reader.proofs.HandingOut.{hand_room, byte_between, hand_begin, hand_sound, hand_turn, hand_part, hand_all, hand_end}
+use Rattle.zero_removal.proofs.Parts.{byte_between}
+use Rattle.frame_reader.proofs.HandingOut.{hand_room, hand_begin, hand_sound, hand_turn, hand_part, hand_all, hand_end}
 use Rattle.frame_reader.proofs.content.hand_out.Goals as goal
 use Rattle.frame_reader.proofs.content.hand_out.Goals.{in-Some, in_default}
 
