@@ -7,6 +7,7 @@ ghost use Rattle.frame.specs.Frame.{parameters_of};
 ghost use Rattle.frame_walk.specs.Walk.{of_walk, walk_zeros, walk_of};
 
 use crate::{Line, Walk};
+use cyclic::Cyclic;
 use cyclic5::Cyclic5;
 use cyclic6::Cyclic6;
 use frame::{FrameMethod, ReadRefusal};
@@ -18,10 +19,10 @@ impl Line<'_> {
     fn walk(self, m: FrameMethod) -> Result<Walk, ReadRefusal>
         ensures { of_walk result ≡ walk_zeros (parameters_of m) self.entry.end (unstuff 0 8 (slice 8 self.entry.end (bits_of self.entry.lent.now))) }
     {
-        // Only what differs stands in the arms: the table and the start of the method.
+        // Only what differs stands in the arms: the table and the register of the method.
         match m {
-            FrameMethod::Cyclic16 => self.pass(&ccitt16(), Cyclic5::START as u32),
-            FrameMethod::Cyclic32 => self.pass(&ieee32(), Cyclic6::START),
+            FrameMethod::Cyclic16 => self.pass(&ccitt16(), Cyclic5::new().register as u32),
+            FrameMethod::Cyclic32 => self.pass(&ieee32(), Cyclic6::new().register),
         }
     }
 }
