@@ -1,2 +1,3 @@
 pub mod Length
 pub mod Agreement
+pub mod OneToOne
