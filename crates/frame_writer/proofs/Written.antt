@@ -20,7 +20,7 @@ use Rattle.frame_writer.specs.declared.BitWriter.{BitWriter}
 use Rattle.frame_writer.specs.declared.ZeroCount.{ZeroCount}
 use Rattle.frame.specs.Stuffing.{is_fifth, run_on, zero_if, stuff, run_after}
 use Rattle.frame.specs.Frame.{flag, enclose, frame_of}
-use Rattle.frame.specs.Write.{WriteAnswer, ask_room, write_frame, write_output}
+use Rattle.frame.specs.Write.{WriteAnswer, written, ask_room, write_frame, write_output}
 use Rattle.frame.specs.Answers.{Numbers, frame, refused, after_writing}
 use Rattle.zero_insertion.specs.Insertion.{run_before}
 use Rattle.frame_writer.specs.Steps.{Opens, position, stored, Puts, Counts}
@@ -187,10 +187,9 @@ module _ (s : List Bool) (out : List ℕ) where
   unfolding write_output
   room_short e h = rw (e, lt-leb (bytes_for (length s)) (length out) (omega arith)) refl
 
-  pub room_enough : bytes_for (length s) ≤ length out → {bits : ℕ} → bits ≡ length s → {after : List ℕ} → after ≡ pack s ++ drop (bytes_for (length s)) out
+  pub room_enough : bytes_for (length s) ≤ length out → {bits : ℕ} {after : List ℕ} → Answers (frame bits) after (written s) out
       → Answers (frame bits) after (ask_room s (length out)) out
-  unfolding write_output
-  room_enough h e f = rw (e, f, le-leb (bytes_for (length s)) (length out) h) refl
+  room_enough h e = rw (le-leb (bytes_for (length s)) (length out) h) e
 
 module _ (m : Parameters) (content out : List ℕ) where
   pub no_content : length content ≡ 0 → Answers (refused 21 0) out (write_frame m content (length out)) out

@@ -1,9 +1,9 @@
 // Writing a frame: questions 21 to 23, then its bits.
-ghost use Rattle.std.specs.Prelude.{◌≡◌, ◌++◌, ◌≤◌, length, drop};
-ghost use Rattle.bits.specs.Bytes.{bytes_for, pack};
+ghost use Rattle.std.specs.Prelude.{◌≡◌, ◌≤◌, length};
+ghost use Rattle.bits.specs.Bytes.{bytes_for};
 ghost use Rattle.bits.specs.Calls.{called};
 ghost use Rattle.frame.specs.Frame.{enclose};
-ghost use Rattle.frame.specs.Write.{ask_room};
+ghost use Rattle.frame.specs.Write.{ask_room, written};
 ghost use Rattle.frame.specs.Answers.{of_written, after_writing, write_call};
 ghost use Rattle.frame_writer.specs.Steps.{checked};
 
@@ -18,7 +18,7 @@ impl Checked<'_> {
     // Puts the frame at the start of the output. Its bits.
     fn put(self, out: &mut [u8]) -> usize
         requires { bytes_for (length (enclose (checked self))) ≤ length out.old }
-        ensures { (result ≡ length (enclose (checked self.entry))) × (out.new ≡ pack (enclose (checked self.entry)) ++ drop (bytes_for (length (enclose (checked self.entry)))) out.old) }
+        ensures { called (of_written (Ok result)) out.new ≡ after_writing (written (enclose (checked self.entry))) out.old }
     {
         out[0] = FLAG;
         let body = BitWriter::open().put_bytes(&mut *out, self.content);

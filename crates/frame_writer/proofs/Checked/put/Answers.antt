@@ -1,9 +1,12 @@
 -- `put` meets its contract: a flag, content and check, and a flag, put one after the other. Assumes nothing.
-use mathlib.Core.Path.{refl, sym, ◌∙◌}
+use mathlib.Core.Path.{refl, sym, ap, ap₂, ◌∙◌}
 use native.Mathlib.Omega.{arith}
 use mathlib.Core.List.{[], append-nil}
 use lib.ListN.{set, length-set}
 use Rattle.bits.specs.Bytes.{bits_of}
+use Rattle.bits.specs.Calls.{called}
+use Rattle.frame.specs.Write.{write_output}
+use Rattle.frame.specs.Answers.{frame}
 use Rattle.frame_writer.proofs.Writers.{put_begin, room}
 use Rattle.frame_writer.proofs.Written.{opened-length, length-enclose, put_enclosed, both, content_put, check_put, put_position, frame_le}
 use Rattle.frame_writer.proofs.Checked.put.Goals as goal
@@ -41,6 +44,7 @@ put_flag-requires c =
     )
 
 pub returns : goal.returns
+unfolding write_output
 returns c =
     let p = c.put_bytes-body in
     let q = c.put_bytes-tail in
@@ -48,4 +52,4 @@ returns c =
     let content = c.args.self.content.now in
     let check = c.args.self.check.now in
     let k = check_put content check p.ensures p.auto.out q.ensures q.auto.out in
-    (f.ensures.0 ∙ put_position content check c.open.ensures k, put_enclosed (both content check) c.args.out.now c.open.ensures c.requires k f.ensures.1)
+    ap₂ called (ap frame (f.ensures.0 ∙ put_position content check c.open.ensures k)) (put_enclosed (both content check) c.args.out.now c.open.ensures c.requires k f.ensures.1)

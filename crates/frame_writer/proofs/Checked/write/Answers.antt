@@ -12,7 +12,7 @@ pub returns-then-most-out : goal.returns-then-most-out
 returns-then-most-out c =
     let p = c.put in
     let h = frame_le c.args.self.content.now c.args.self.check.now in
-    room_enough (enclose (both c.args.self.content.now c.args.self.check.now)) c.args.out.now (omega (arith, c.args.self.check_small, c.if-most-out.true)) p.ensures.0 p.ensures.1
+    room_enough (enclose (both c.args.self.content.now c.args.self.check.now)) c.args.out.now (omega (arith, c.args.self.check_small, c.if-most-out.true)) p.ensures
 
 pub returns-then-needed-out : goal.returns-then-needed-out
 returns-then-needed-out c =
@@ -21,4 +21,4 @@ returns-then-needed-out c =
 pub returns : goal.returns
 returns c =
     let p = c.put-2 in
-    room_enough (enclose (both c.args.self.content.now c.args.self.check.now)) c.args.out.now (omega (arith, c.frame_bytes-needed.ensures, c.if-needed-out.false)) p.ensures.0 p.ensures.1
+    room_enough (enclose (both c.args.self.content.now c.args.self.check.now)) c.args.out.now (omega (arith, c.frame_bytes-needed.ensures, c.if-needed-out.false)) p.ensures
