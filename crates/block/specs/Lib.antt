@@ -7,3 +7,4 @@ pub mod Read
 pub mod Write
 pub mod Answers
 pub mod Scan
+pub mod Lent

@@ -3,8 +3,7 @@
 
 ghost use Rattle.std.specs.Prelude.{◌≡◌};
 ghost use Rattle.bits.specs.Bytes.{pack};
-ghost use Rattle.block.specs.Check.{check_of};
-ghost use Rattle.block.specs.Write.{counted_bytes};
+ghost use Rattle.block.specs.Lent.{check_of_parts};
 ghost use Rattle.block_check.specs.Numbers.{start_of, number_after};
 ghost use Rattle.block_checks.specs.Checked.{checked_bytes};
 
@@ -25,7 +24,7 @@ fn written_number(m: Method, parts: &Parts<'_>) -> u16
 
 // The check of every method: none, one byte or two.
 pub fn written_check(link: Link, parts: &Parts<'_>) -> FewBytes
-    ensures { result ≡ pack (check_of link.method link.parity (counted_bytes link.method link.parity parts.now.shape parts.now.end parts.now.header.now parts.now.text.now)) }
+    ensures { result ≡ pack (check_of_parts link parts.now) }
 {
     check_from(link, written_number(link.method, parts))
 }

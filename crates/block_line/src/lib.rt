@@ -3,7 +3,7 @@
 
 ghost use Rattle.std.specs.Prelude.{map};
 ghost use Rattle.block.specs.Characters as characters;
-ghost use Rattle.block.specs.Write as rule;
+ghost use Rattle.block.specs.Lent.{line_of_parts};
 ghost use Rattle.block_store.specs.Store.{Stored};
 ghost use Rattle.block_line.specs.Line.{text_bytes};
 
@@ -31,7 +31,7 @@ fn put_text(
 
 // The whole line from the start of the output on.
 pub fn put_line(link: Link, parts: &Parts<'_>, out: &mut [u8]) -> usize
-    ensures { Stored out.old 0 (rule.line_of link.method link.parity parts.now.shape parts.now.end parts.now.header.now parts.now.text.now) out.new result }
+    ensures { Stored out.old 0 (line_of_parts link parts.now) out.new result }
 {
     let parity = link.parity;
     let seven = is_seven(link.method);

@@ -5,6 +5,8 @@ use Rattle.block.specs.declared.Parity.{Parity}
 use Rattle.block.specs.declared.Shape.{Shape}
 use Rattle.block.specs.declared.EndSign.{EndSign}
 use Rattle.block.specs.declared.Block.{Block}
+use Rattle.block.specs.declared.Link.{Link}
+use Rattle.block.specs.declared.Parts.{Parts}
 use Rattle.block.specs.Signs.{end_byte}
 use Rattle.block.specs.Answers as answers
 use Rattle.block.specs.Read as reading
@@ -45,6 +47,10 @@ block_trip wrote read line out = returned (block_answer wrote read) (writing.wri
 abbrev pub block_returns : Method → Parity → Shape → EndSign → List ℕ → List ℕ → List ℕ → List ℕ → RoundTrip
 block_returns m p s e head body line out =
     block_trip (writing.write_block m p s e head body (length line)) (block_back s e head body (length out)) line out
+
+-- and of a link and the parts lent
+abbrev pub returns_of_parts : Link → Parts → List ℕ → List ℕ → RoundTrip
+returns_of_parts l s line out = block_returns l.method l.parity s.shape s.end s.header.now s.text.now line out
 
 -- the block read has the parts given, and the output starts with them
 pub record BlockOf (s : Shape) (e : EndSign) (head body : List ℕ) (b : Block) (out : List ℕ) : Type 0 where

@@ -5,7 +5,7 @@
 
 ghost use Rattle.std.specs.Prelude.{◌≡◌};
 ghost use Rattle.roundtrip.specs.Returns.{returned};
-ghost use Rattle.block_roundtrip.specs.Returns.{of_block_return, block_returns};
+ghost use Rattle.block_roundtrip.specs.Returns.{of_block_return, returns_of_parts};
 
 use crate::compare::same_block;
 use block::{Link, Parts, ReadRefusal, WriteRefusal};
@@ -23,7 +23,7 @@ pub fn block_returns(
     line: &mut [u8],
     out: &mut [u8],
 ) -> Result<bool, RoundTripError<WriteRefusal, ReadRefusal>>
-    ensures { returned (of_block_return result) line.new out.new ≡ block_returns link.method link.parity parts.now.shape parts.now.end parts.now.header.now parts.now.text.now line.old out.old }
+    ensures { returned (of_block_return result) line.new out.new ≡ returns_of_parts link parts.now line.old out.old }
 {
     let n = write_block(link, parts, &mut *line).map_err(RoundTripError::NotWritten)?;
     let b = read_block(link, &line[..n], &mut *out).map_err(RoundTripError::NotRead)?;

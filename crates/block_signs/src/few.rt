@@ -6,15 +6,15 @@ use std::marker::Model;
 #[derive(Drop)]
 pub struct FewBytes {
     bytes: [u8; 2],
-    length: usize,
+    count: usize,
 }
 
 impl Model for FewBytes {
     ghost Value = { List ℕ };
 
-    ghost view = { λ f. take f.length f.bytes };
+    ghost view = { λ f. take f.count f.bytes };
 
-    ghost invariant = { λ f. f.length ≤ 2 };
+    ghost invariant = { λ f. f.count ≤ 2 };
 }
 
 impl FewBytes {
@@ -23,7 +23,7 @@ impl FewBytes {
     {
         Self {
             bytes: [0, 0],
-            length: 0,
+            count: 0,
         }
     }
 
@@ -32,26 +32,26 @@ impl FewBytes {
     {
         Self {
             bytes: [byte, 0],
-            length: 1,
+            count: 1,
         }
     }
 
     pub fn two(bytes: [u8; 2]) -> Self
         ensures { result ≡ bytes }
     {
-        Self { bytes, length: 2 }
+        Self { bytes, count: 2 }
     }
 
     pub fn as_slice(&self) -> &[u8]
         ensures { result.now ≡ self.now }
     {
-        &self.bytes[..self.length]
+        &self.bytes[..self.count]
     }
 
     pub fn len(&self) -> usize
         ensures length { result ≡ length self.now }
         ensures few { result ≤ 2 }
     {
-        self.length
+        self.count
     }
 }

@@ -1,8 +1,8 @@
 // Writing a block: questions 1, 4, 2, 3, 5, 6, then the line.
 ghost use Rattle.std.specs.Prelude.{◌≡◌, length};
 ghost use Rattle.bits.specs.Calls.{called};
-ghost use Rattle.block.specs.Write as rule;
-ghost use Rattle.block.specs.Answers.{of_written, after_writing, write_call};
+ghost use Rattle.block.specs.Lent.{line_of_parts, write_parts};
+ghost use Rattle.block.specs.Answers.{of_written, after_writing};
 ghost use Rattle.block_writer.specs.Writing.{ask_room};
 
 use crate::ShortParts;
@@ -13,7 +13,7 @@ use block_parts::ask_parts;
 impl ShortParts<'_> {
     // Question 6, then the line.
     fn write_line(self, link: Link, out: &mut [u8]) -> Result<usize, WriteRefusal>
-        ensures { called (of_written result) out.new ≡ after_writing (ask_room (rule.line_of link.method link.parity self.entry.parts.now.shape self.entry.parts.now.end self.entry.parts.now.header.now self.entry.parts.now.text.now) (length out.old)) out.old }
+        ensures { called (of_written result) out.new ≡ after_writing (ask_room (line_of_parts link self.entry.parts.now) (length out.old)) out.old }
     {
         let needed = self.line_length(link.method);
         if needed > out.len() {
@@ -26,7 +26,7 @@ impl ShortParts<'_> {
 
 // Document 01, part 3: writes one block.
 pub fn write_block(link: Link, parts: &Parts<'_>, out: &mut [u8]) -> Result<usize, WriteRefusal>
-    ensures { called (of_written result) out.new ≡ write_call link.method link.parity parts.now.shape parts.now.end parts.now.header.now parts.now.text.now out.old }
+    ensures { called (of_written result) out.new ≡ write_parts link parts.now out.old }
 {
     ask_parts(is_seven(link.method), parts)?;
     let short = ShortParts { parts };
