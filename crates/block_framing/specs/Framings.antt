@@ -16,8 +16,7 @@ use Rattle.block.specs.Characters.{character}
 use Rattle.block.specs.Marks.{counted, is_header, is_text, sift}
 use Rattle.block.specs.Read.{Framed, found, unframed}
 use Rattle.block.specs.Write.{is_clear}
-use Rattle.block.specs.Answers.{Numbers, read_number, read_value}
-use Rattle.block.specs.Answers as answers
+use Rattle.block.specs.Answers.{read_number, read_value}
 use Rattle.block_framing.specs.declared.Segments.{Segments}
 
 -- ---- the marks counted up
@@ -104,11 +103,6 @@ of_walk (Err r) = refusal (read_number r) (read_value r)
 abbrev pub framed_answer : Bool → List ℕ → Framed → WalkAnswer
 framed_answer seven line (found ks f e) = framed (framing_at (start_of seven line) f e (tallied no_tally 0 ks) (length ks))
 framed_answer seven line (unframed number value) = refusal number value
-
--- the refusal where no framing was found
-abbrev pub of_unframed : WalkAnswer → Numbers
-of_unframed (framed f) = answers.refused 15 0
-of_unframed (refusal number value) = answers.refused number value
 
 -- ---- bytes by their segments
 

@@ -28,9 +28,6 @@ pub record Copying (whole before out left : List ℕ) (n : ℕ) : Type 0 where
   pub places : n + length left ≡ length whole
   pub rest : sets out n left ≡ sets before 0 whole
 
-pub copying : (whole out : List ℕ) → Copying whole out out whole 0
-copying whole out = record { size = refl; places = omega arith; rest = refl }
-
 module _ {whole before out left : List ℕ} {n : ℕ} (w : Copying whole before out left n) where
   some_copied : (xs : List ℕ) {left' out' : List ℕ} {n' : ℕ} → left ≡ xs ++ left' → n' ≡ n + length xs → out' ≡ sets out n xs → length out' ≡ length out
       → Copying whole before out' left' n'
