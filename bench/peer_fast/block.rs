@@ -3,8 +3,8 @@
 use super::check::{Check, Register, Sum, APPENDIX_1, APPENDIX_3};
 use super::grammar::{walk, Part, Walked};
 use super::signs::{sent, sent_byte};
-use crate::peer::block::{LONGEST_COUNT, LONGEST_LINE};
-use crate::peer::signs::{Link, Shape, Text, DLE, ETB, ETX, SOH, STX, SYN, US};
+use crate::peer::block::{ask_parts, LONGEST_COUNT, LONGEST_LINE};
+use crate::peer::signs::{Link, Shape, Text, DLE, SYN};
 use crate::peer::{ask, Refusal};
 
 /// What a block is written from.
@@ -111,7 +111,7 @@ fn copy_clear(part: Part, line: &[u8], out: &mut [u8]) {
 
 /// Writes a block; gives the length of its line.
 pub fn write(parts: &Parts, out: &mut [u8]) -> Result<usize, Refusal> {
-    ask_parts(parts)?;
+    ask_parts(parts.link, parts.shape, parts.header, parts.text)?;
     let clear = parts.shape.text == Text::Clear;
     let (start, inner_start) = parts.shape.starts();
     let counted = parts.header.len() + inner_start.len() + parts.text.len() + 1;
@@ -127,36 +127,6 @@ pub fn write(parts: &Parts, out: &mut [u8]) -> Result<usize, Refusal> {
     };
     put_line(parts, start, inner_start, line);
     Ok(needed)
-}
-
-/// Asks what can be asked of the parts one by one: questions 1 to 4.
-fn ask_parts(parts: &Parts) -> Result<(), Refusal> {
-    let clear = parts.shape.text == Text::Clear;
-    ask(!(clear && parts.link.seven_bits()), Refusal::plain(1))?;
-    ask(
-        parts.shape.header || parts.header.is_empty(),
-        Refusal::plain(4),
-    )?;
-    let text_fits = parts.shape.text != Text::Absent || parts.text.is_empty();
-    ask(text_fits, Refusal::plain(4))?;
-    ask_characters(parts.link, parts.header, 2)?;
-    if !clear {
-        ask_characters(parts.link, parts.text, 3)?;
-    }
-    Ok(())
-}
-
-/// Asks whether every byte may stand in a header or a plain text.
-fn ask_characters(link: Link, part: &[u8], number: u32) -> Result<(), Refusal> {
-    let seven = link.seven_bits();
-    let wrong = |byte: &u8| match *byte {
-        SOH | STX | ETX | DLE | SYN | ETB | US => true,
-        byte => seven && byte >= 0x80,
-    };
-    match part.iter().position(wrong) {
-        Some(place) => Err(Refusal::with(number, place)),
-        None => Ok(()),
-    }
 }
 
 /// Bytes stored one behind the other.

@@ -1,5 +1,6 @@
-//! The grammar of a block, one function per field, as in tests/peer. Counted
-//! bytes enter the check on the way.
+//! The grammar of a block, one function per field, as in tests/peer. It
+//! stands here a second time because counted bytes enter the check on the way
+//! and nothing is stored, which is what the benchmark measures.
 
 use super::check::Check;
 use crate::peer::signs::{Shape, Text, DLE, ETB, ETX, SOH, STX, SYN, US};

@@ -1,6 +1,7 @@
 //! The independent implementation of tests/peer made fast: the same grammar
-//! with one function per field, the same questions one by one, but checks go
-//! through tables, nothing is allocated, and a line is noted as places in it.
+//! with one function per field, the same questions one by one (those of the
+//! parts are the peer's own), but checks go through tables, nothing is
+//! allocated, and a line is noted as places in it.
 
 mod block;
 mod check;

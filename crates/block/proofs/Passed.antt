@@ -22,16 +22,17 @@ use Rattle.block.specs.Walk.{Stop, ended, refused, Walked, walk}
 use Rattle.block.specs.Marks.{counted}
 use Rattle.block.specs.Check.{check_length}
 use Rattle.block.specs.Read.{Framed, found, unframed, ask_parities, ask_end, ask_walk, framed}
+use Rattle.block.specs.Limits.{counted_limit, line_limit}
 
 abbrev pub ParitiesRight : Parity → List ℕ → Type 0
 ParitiesRight p = Each (λ b. parity (low_bits 8 b) ≡ is_odd p)
 
 pub record Passed (m : Method) (p : Parity) (line : List ℕ) (ks : List Mark) (f : Field) (e : EndSign) : Type 0 where
-  pub short : length line ≤ 16384
+  pub short : length line ≤ line_limit
   pub parities : is_seven m ≡ true → ParitiesRight p line
   pub walked : walk (is_seven m) line 0 Start ≡ record { marks = ks; stop = ended f e }
   pub closes : length line ≡ length ks + check_length m
-  pub few : length (counted ks line) ≤ 4096
+  pub few : length (counted ks line) ≤ counted_limit
 
 equal_bits : (a b : Bool) → beq a b ≡ true → a ≡ b
 equal_bits true true e = refl
@@ -58,11 +59,11 @@ module _ {ks : List Mark} {f : Field} {e : EndSign} where
   either_passed false p line next q = (λ s. absurd (true≢false (sym s)), q)
 
   end_passed : (m : Method) (line : List ℕ) (w : Walked) → ask_walk m line w ≡ found ks f e
-      → (w ≡ record { marks = ks; stop = ended f e }) × (length line ≡ length ks + check_length m) × (length (counted ks line) ≤ 4096)
+      → (w ≡ record { marks = ks; stop = ended f e }) × (length line ≡ length ks + check_length m) × (length (counted ks line) ≤ counted_limit)
   end_passed m line w q = go w.stop refl
     where
       go : (s : Stop) → w.stop ≡ s
-          → (w ≡ record { marks = ks; stop = ended f e }) × (length line ≡ length ks + check_length m) × (length (counted ks line) ≤ 4096)
+          → (w ≡ record { marks = ks; stop = ended f e }) × (length line ≡ length ks + check_length m) × (length (counted ks line) ≤ counted_limit)
       go (refused n v) r =
           let c : unframed n v ≡ found ks f e = sym (ap (ask_end m line w.marks) r) ∙ q in
           absurd (let z : ◌≡◌ {A = ℕ} 0 1 = cc in omega arith)
@@ -70,7 +71,7 @@ module _ {ks : List Mark} {f : Field} {e : EndSign} where
           let c = sym (ap (ask_end m line w.marks) r) ∙ q in
           let enough = ask-passed (leb (length w.marks + check_length m) (length line)) not_found c in
           let a = ask-passed (leb (length line) (length w.marks + check_length m)) not_found enough.1 in
-          let b = ask-passed (leb (length (counted w.marks line)) 4096) not_found a.1 in
+          let b = ask-passed (leb (length (counted w.marks line)) counted_limit) not_found a.1 in
           let k : found w.marks g d ≡ found ks f e = b.1 in
           let needed = length w.marks + check_length m in
           let closes : length line ≡ needed = omega (arith, leb-true needed (length line) enough.0, leb-true (length line) needed a.0) in
@@ -78,7 +79,7 @@ module _ {ks : List Mark} {f : Field} {e : EndSign} where
           let y : ended g d ≡ ended f e = cc in (
             ap₂ (λ (i : List Mark) (j : Stop). record { marks = i; stop = j }) x (r ∙ y),
             subst (λ (i : List Mark). length line ≡ length i + check_length m) x closes,
-            subst (λ (i : List Mark). length (counted i line) ≤ 4096) x (leb-true _ _ b.0),
+            subst (λ (i : List Mark). length (counted i line) ≤ counted_limit) x (leb-true _ _ b.0),
           )
 
 pub passed : (m : Method) (p : Parity) (line : List ℕ) (ks : List Mark) (f : Field) (e : EndSign) → framed m p line ≡ found ks f e → Passed m p line ks f e
@@ -86,7 +87,7 @@ unfolding framed
 passed m p line ks f e q =
     let w = walk (is_seven m) line 0 Start in
     let next = ask_walk m line w in
-    let a = ask-passed (leb (length line) 16384) not_found q in
+    let a = ask-passed (leb (length line) line_limit) not_found q in
     let b = either_passed (is_seven m) p line next a.1 in
     let c = end_passed m line w b.1 in
     record { short = leb-true _ _ a.0; parities = b.0; walked = c.0; closes = c.1; few = c.2 }

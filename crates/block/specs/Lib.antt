@@ -3,6 +3,7 @@ pub mod Characters
 pub mod Walk
 pub mod Marks
 pub mod Check
+pub mod Limits
 pub mod Read
 pub mod Write
 pub mod Answers

@@ -13,6 +13,7 @@ use Rattle.block.specs.Characters.{is_seven, parity_right}
 use Rattle.block.specs.Walk.{Stop, ended, refused, Walked, walk}
 use Rattle.block.specs.Marks.{counted, header, text, check_bytes, left_out, LeftOutByte, has_inner, shape_of}
 use Rattle.block.specs.Check.{check_of, check_length}
+use Rattle.block.specs.Limits.{counted_limit, line_limit}
 
 -- the marks of a line with the field and kind of its end sign; or the number and value of a refusal
 pub data Framed : Type 0 where
@@ -34,7 +35,7 @@ ask_end m line ks (refused number value) = unframed number value
 ask_end m line ks (ended f e) =
     ask (leb (length ks + check_length m) (length line)) 52 (length ks)
     (ask (leb (length line) (length ks + check_length m)) 53 (length ks)
-    (ask (leb (length (counted ks line)) 4096) 17 0
+    (ask (leb (length (counted ks line)) counted_limit) 17 0
     (found ks f e)))
 
 abbrev pub ask_walk : Method → List ℕ → Walked → Framed
@@ -43,7 +44,7 @@ ask_walk m line w = ask_end m line w.marks w.stop
 -- 11 to 15, 52, 53 and 17
 unfoldable pub framed : Method → Parity → List ℕ → Framed
 framed m p line =
-    ask (leb (length line) 16384) 11 0
+    ask (leb (length line) line_limit) 11 0
     (cond (is_seven m) (ask_parities p line 0 (ask_walk m line (walk (is_seven m) line 0 Start))) (ask_walk m line (walk (is_seven m) line 0 Start)))
 
 -- a line has a framing where all of these are passed

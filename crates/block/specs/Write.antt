@@ -10,6 +10,7 @@ use Rattle.block.specs.declared.EndSign.{EndSign}
 use Rattle.block.specs.Signs.{Sign, soh, stx, etx, dle, syn, etb, us, other, sign_of, SOH, STX, DLE, end_byte}
 use Rattle.block.specs.Characters.{is_seven, sent}
 use Rattle.block.specs.Check.{check_of}
+use Rattle.block.specs.Limits.{counted_limit}
 
 -- ---- shapes
 
@@ -115,7 +116,7 @@ write_block m p s e head body room =
     (ask ((has_header s || is_empty head) && (has_text s || is_empty body)) 4 0
     (ask_free (is_seven m) 2 head 0
     (ask_free (is_seven m) 3 (cond (is_clear s) [] body) 0
-    (ask (leb (counted_length s head body) 4096) 5 0
+    (ask (leb (counted_length s head body) counted_limit) 5 0
     (ask (leb (length (line_of m p s e head body)) room) 6 (length (line_of m p s e head body))
     (written (line_of m p s e head body)))))))
 

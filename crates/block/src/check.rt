@@ -1,13 +1,10 @@
-// What the checks of a read and of a written block share: the limit of the count, the length of a check, and sums bit by bit.
+// What the checks of a read and of a written block share: the length of a check, and sums bit by bit.
 ghost use Rattle.std.specs.Prelude.{◌≡◌};
 ghost use Rattle.block.specs.Check.{check_length, xor_all};
 
 use crate::Method;
 use cyclic3::Cyclic3;
 use cyclic4::Cyclic4;
-
-// Questions 5 and 17: the most bytes that a block counts, in every method what methods 3 and 4 allow.
-pub const COUNTED_LIMIT: usize = Cyclic3::LIMIT;
 
 // How many bytes of check follow the end sign.
 pub fn check_length(m: Method) -> usize

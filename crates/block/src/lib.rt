@@ -140,9 +140,11 @@ pub enum Judged {
 }
 
 mod check;
+mod limits;
 mod shapes;
 mod signs;
 
-pub use check::{COUNTED_LIMIT, check_length, sum_slice};
+pub use check::{check_length, sum_slice};
+pub use limits::{COUNTED_LIMIT, LINE_LIMIT};
 pub use shapes::is_clear;
 pub use signs::{DLE, ETB, ETX, GREATEST_SIGN, SOH, STX, SYN, US, character, is_seven};

@@ -28,6 +28,7 @@ use Rattle.block.specs.Scan.{first_failing}
 use Rattle.block.specs.Read.{Framed, found, unframed, ask_parities, ask_end, ask_walk}
 use Rattle.block.specs.Read as rule
 use Rattle.block.specs.Answers.{read_number, read_value}
+use Rattle.block.specs.Limits.{counted_limit, line_limit}
 use Rattle.block.proofs.Walks.{marks-within}
 use Rattle.std.specs.Prelude.{Result, Ok, Err}
 use Rattle.block_framing.specs.declared.Segments.{Segments}
@@ -176,7 +177,7 @@ module _ (m : Method) (line : List ℕ) (r : Segments) (e : walk_answer (start_o
   count : r.counted ≡ length (counted w.marks line)
   count = carried.counts ∙ (tally_counts w.marks line (marks-within (is_seven m) line 0 Start)).counts
 
-  pub after_small : length line ≤ 16384 → r.after ≤ 16384
+  pub after_small : length line ≤ line_limit → r.after ≤ line_limit
   after_small h = omega (arith, carried.behind, marks-within (is_seven m) line 0 Start)
 
   -- the answers to 52, 53 and 17
@@ -184,7 +185,7 @@ module _ (m : Method) (line : List ℕ) (r : Segments) (e : walk_answer (start_o
   by_count t = rule.ask t 17 0 (found w.marks by.field by.end)
 
   abbrev few : Bool
-  few = leb (length (counted w.marks line)) 4096
+  few = leb (length (counted w.marks line)) counted_limit
 
   by_length : Bool → Bool → Framed
   by_length enough None-more = rule.ask enough 52 (length w.marks) (rule.ask None-more 53 (length w.marks) (by_count few))
@@ -218,14 +219,14 @@ module _ (m : Method) (line : List ℕ) (r : Segments) (e : walk_answer (start_o
     right-length =
         asked ∙ ap₂ by_length (le-leb closed (length line) (omega (arith, closes))) (le-leb (length line) closed (omega (arith, closes)))
 
-    pub too_many : 4096 < r.counted → framed_answer (is_seven m) line (ask_walk m line w) ≡ refusal 17 0
+    pub too_many : counted_limit < r.counted → framed_answer (is_seven m) line (ask_walk m line w) ≡ refusal 17 0
     unfolding by_count
-    too_many k = ap (framed_answer (is_seven m) line) (right-length ∙ ap by_count (lt-leb (length (counted w.marks line)) 4096 (omega (arith, count))))
+    too_many k = ap (framed_answer (is_seven m) line) (right-length ∙ ap by_count (lt-leb (length (counted w.marks line)) counted_limit (omega (arith, count))))
 
-    pub all-passed : r.counted ≤ 4096 → framed_answer (is_seven m) line (ask_walk m line w) ≡ framed r
+    pub all-passed : r.counted ≤ counted_limit → framed_answer (is_seven m) line (ask_walk m line w) ≡ framed r
     unfolding by_count
     all-passed k =
-        ap (framed_answer (is_seven m) line) (right-length ∙ ap by_count (le-leb (length (counted w.marks line)) 4096 (omega (arith, count)))) ∙ ap framed (sym by.framing)
+        ap (framed_answer (is_seven m) line) (right-length ∙ ap by_count (le-leb (length (counted w.marks line)) counted_limit (omega (arith, count)))) ∙ ap framed (sym by.framing)
 
 -- ---- the same of the code's walk
 
@@ -242,20 +243,20 @@ module _ (m : Method) (line : List ℕ) {seven : Bool} {result : Result Segments
 -- ---- 11 and 12
 
 module _ (m : Method) (p : Parity) (line : List ℕ) where
-  pub too_long : 16384 < length line → refusal 11 0 ≡ framed_answer (is_seven m) line (rule.framed m p line)
+  pub too_long : line_limit < length line → refusal 11 0 ≡ framed_answer (is_seven m) line (rule.framed m p line)
   unfolding rule.framed
-  too_long h = rw (lt-leb (length line) 16384 h)
+  too_long h = rw (lt-leb (length line) line_limit h)
 
-  module _ (h : length line ≤ 16384) where
+  module _ (h : length line ≤ line_limit) where
     pub eight_bit : {seven : Bool} → seven ≡ is_seven m → seven ≡ false → framed_answer (is_seven m) line (ask_walk m line (walk (is_seven m) line 0 Start)) ≡ framed_answer (is_seven m) line (rule.framed m p line)
     unfolding rule.framed
-    eight_bit s e = rw (le-leb (length line) 16384 h, sym s ∙ e)
+    eight_bit s e = rw (le-leb (length line) line_limit h, sym s ∙ e)
 
     module _ {seven : Bool} (s : seven ≡ is_seven m) (e : seven ≡ true) where
       seven_bit : rule.framed m p line ≡ ask_parities p line 0 (ask_walk m line (walk (is_seven m) line 0 Start))
       unfolding rule.framed
       seven_bit =
-          ap (λ t. rule.ask t 11 0 (cond (is_seven m) (ask_parities p line 0 (ask_walk m line (walk (is_seven m) line 0 Start))) (ask_walk m line (walk (is_seven m) line 0 Start)))) (le-leb (length line) 16384 h)
+          ap (λ t. rule.ask t 11 0 (cond (is_seven m) (ask_parities p line 0 (ask_walk m line (walk (is_seven m) line 0 Start))) (ask_walk m line (walk (is_seven m) line 0 Start)))) (le-leb (length line) line_limit h)
           ∙ ap (λ t. cond t (ask_parities p line 0 (ask_walk m line (walk (is_seven m) line 0 Start))) (ask_walk m line (walk (is_seven m) line 0 Start))) (sym s ∙ e)
 
       pub wrong_parity : {at : ℕ} → at ≡ first_failing (parity_right p) 0 line → at < length line → refusal 12 at ≡ framed_answer (is_seven m) line (rule.framed m p line)

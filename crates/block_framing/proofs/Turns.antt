@@ -22,6 +22,7 @@ use Rattle.block.specs.Characters.{character}
 use Rattle.block.specs.Walk.{onward, judge, walk}
 use Rattle.block.specs.Write.{is_other}
 use Rattle.block.specs.Scan.{first_failing}
+use Rattle.block.specs.Limits.{line_limit}
 use Rattle.block.proofs.Scans.{Reached, reached}
 use Rattle.block_scan.specs.Tests.{is_plain_byte, is_clear_byte, is_data}
 use Rattle.block_end.specs.Ends.{text_signs, is_fill}
@@ -67,7 +68,7 @@ small_leave End t i s = record { inner = omega (arith, s.inner); all = omega (ar
 
 pub record Walking (seven : Bool) (line : List ℕ) (t : LeftOuts) (f : Field) (i : ℕ) : Type 0 where
   pub within : i ≤ length line
-  pub size : length line ≤ 16384
+  pub size : length line ≤ line_limit
   pub small : Small t i
   pub rest : walk_answer (start_of seven line) t i (walk seven (drop i line) i f) ≡ walk_answer (start_of seven line) no_left_outs 0 (walk seven line 0 Start)
 

@@ -1,5 +1,6 @@
 // The segments of a line, from where the walk over it ended and from what the walk kept.
 ghost use Rattle.std.specs.Prelude.{◌≡◌, ◌≤◌, None, Some};
+ghost use Rattle.block.specs.Limits.{line_limit};
 ghost use Rattle.block_framing.specs.Walks as walks;
 
 use crate::{FirstInnerStart, LeftOuts, Segments};
@@ -14,7 +15,7 @@ pub(crate) struct Ending {
     pub signs: usize,
     pub end: EndSign,
     pub after: usize,
-    ghost start_small: { start ≤ 16384 },
+    ghost start_small: { start ≤ line_limit },
     ghost signs_few: { signs ≤ 2 },
 }
 
@@ -64,7 +65,7 @@ impl Ending {
 
     // The segments of a line with a header and a text, `all` of its bytes left out.
     fn header_and_text(self, inner: FirstInnerStart, all: usize) -> Segments
-        requires { inner.at ≤ 16384 }
+        requires { inner.at ≤ line_limit }
         ensures { result ≡ walks.text_at self.start self.signs self.end (Some inner) all self.after }
     {
         let after = self.after;
@@ -88,7 +89,7 @@ impl Ending {
     // The segments of a line that ends here, of which the walk kept `t`.
     #[tactic(auto, unfolding(crate::specs::Walks::segments_at))]
     pub(crate) fn segments(self, t: LeftOuts) -> Segments
-        requires { walks.Small t 16384 }
+        requires { walks.Small t line_limit }
         ensures { result ≡ walks.segments_at self.start self.signs self.end t self.after }
     {
         if self.signs == 0 {

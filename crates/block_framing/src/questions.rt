@@ -2,20 +2,20 @@
 ghost use Rattle.std.specs.Prelude.{◌≡◌, ◌≤◌, length};
 ghost use Rattle.block.specs.Characters.{is_seven};
 ghost use Rattle.block.specs.Walk as rule;
+ghost use Rattle.block.specs.Limits.{line_limit};
 ghost use Rattle.block.specs.Read.{framed, ask_walk};
 ghost use Rattle.block_framing.specs.Framings.{of_walk, framed_answer};
 
 use crate::Segments;
 use crate::walk::walk;
-use block::{BytePlace, COUNTED_LIMIT, Field, Link, Method, ReadRefusal, check_length, is_seven};
+use block::{
+    BytePlace, COUNTED_LIMIT, Field, LINE_LIMIT, Link, Method, ReadRefusal, check_length, is_seven,
+};
 use block_parity::first_wrong;
-
-// Question 11: the most bytes of a line.
-const LINE_LIMIT: usize = 16384;
 
 // Questions 13 to 15, 52, 53 and 17.
 fn walk_closed(m: Method, line: &[u8]) -> Result<Segments, ReadRefusal>
-    requires { length line.now ≤ 16384 }
+    requires { length line.now ≤ line_limit }
     ensures { of_walk result ≡ framed_answer (is_seven m) line.now (ask_walk m line.now (rule.walk (is_seven m) line.now 0 Field.Start)) }
 {
     let walked = walk(is_seven(m), line);

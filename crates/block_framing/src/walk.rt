@@ -1,5 +1,6 @@
 // The walk over a line, questions 13 to 15.
 ghost use Rattle.std.specs.Prelude.{◌≡◌, ◌≤◌, length};
+ghost use Rattle.block.specs.Limits.{line_limit};
 ghost use Rattle.block.specs.Walk as rule;
 ghost use Rattle.block_framing.specs.Framings.{start_of, of_walk};
 ghost use Rattle.block_framing.specs.Walks as walks;
@@ -24,7 +25,7 @@ impl LeftOuts {
 
     // One mark more, that of the byte at the place `at`.
     fn leave(self, k: Mark, at: usize) -> LeftOuts
-        requires { walks.Small self 16384 }
+        requires { walks.Small self line_limit }
         ensures { result ≡ walks.leave k at self }
     {
         let inner = self.inner;
@@ -47,7 +48,7 @@ impl LeftOuts {
 
 // A turn passes a byte and the run of data behind it, so the place moves on by what was passed, and no `for` is plainer.
 pub(crate) fn walk(seven: bool, line: &[u8]) -> Result<Segments, ReadRefusal>
-    requires { length line.now ≤ 16384 }
+    requires { length line.now ≤ line_limit }
     ensures { of_walk result ≡ walks.walk_answer (start_of seven line.now) walks.no_left_outs 0 (rule.walk seven line.now 0 Field.Start) }
 {
     let mut t = LeftOuts::none();

@@ -11,7 +11,8 @@ use runs::{ByteTest, run};
 
 mod parity;
 
-pub use parity::{parity_right, with_parity};
+use parity::parity_right;
+pub use parity::with_parity;
 
 // The parity of the link.
 #[derive(Clone, Copy)]

@@ -23,7 +23,7 @@ fn odd_ones(b: u8) -> bool
 }
 
 #[tactic(auto, unfolding(block::specs::Characters::parity_right))]
-pub fn parity_right(p: Parity, b: u8) -> bool
+pub(crate) fn parity_right(p: Parity, b: u8) -> bool
     ensures { result ≡ rule.parity_right p b }
 {
     odd_ones(b) == is_odd(p)

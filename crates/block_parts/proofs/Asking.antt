@@ -11,6 +11,7 @@ use Rattle.bits.proofs.Tests.{ask-passed}
 use Rattle.block.specs.declared.Shape.{Shape}
 use Rattle.block.specs.Scan.{first_failing}
 use Rattle.block.specs.Write.{is_clear, has_header, has_text, inner_signs, is_empty, is_free, counted_length, WriteAnswer, written, refusal, ask, ask_free}
+use Rattle.block.specs.Limits.{counted_limit}
 use Rattle.block_parts.specs.Parts.{ask_parts}
 
 -- ---- the question of every byte, by the first that is not free
@@ -37,7 +38,7 @@ asked_free seven number next (b ∷ rest) at = go (is_free seven b) (asked_free 
 
 module _ (seven : Bool) (s : Shape) (head body : List ℕ) (next : WriteAnswer) where
   abbrev pub count : WriteAnswer
-  count = ask (leb (counted_length s head body) 4096) 5 0 next
+  count = ask (leb (counted_length s head body) counted_limit) 5 0 next
 
   abbrev pub text : WriteAnswer
   text = ask_free seven 3 (cond (is_clear s) [] body) 0 count
@@ -77,7 +78,7 @@ module _ (seven : Bool) (s : Shape) (head body : List ℕ) (next : WriteAnswer) 
           ∙ ap (λ n. cond (ltb n (0 + length body)) (refusal 3 n) count) (sym e)
           ∙ ap (λ n. cond (ltb at n) (refusal 3 at) count) z ∙ ap (λ v. cond v (refusal 3 at) count) h
 
-  pub ask-count : {r t : Bool} → r ≡ leb (length head + length (inner_signs s) + length body + 1) 4096 → r ≡ t → count ≡ ask t 5 0 next
+  pub ask-count : {r t : Bool} → r ≡ leb (length head + length (inner_signs s) + length body + 1) counted_limit → r ≡ t → count ≡ ask t 5 0 next
   unfolding counted_length
   ask-count q h = ap (λ t. ask t 5 0 next) (sym q ∙ h)
 
@@ -107,11 +108,11 @@ free_passed seven number [] at e = e
 free_passed seven number (b ∷ rest) at e = free_passed seven number rest (at + 1) (ask-passed (is_free seven b) apart e).1
 
 pub parts-passed : (seven : Bool) (s : Shape) (head body : List ℕ) → written [] ≡ ask_parts seven s head body (written [])
-    → (length head ≤ 4096) × (length body ≤ 4096)
+    → (length head ≤ counted_limit) × (length body ≤ counted_limit)
 unfolding ask_parts counted_length
 parts-passed seven s head body e =
     let a = ask-passed (not (seven && is_clear s)) apart (sym e) in
     let b = ask-passed ((has_header s || is_empty head) && (has_text s || is_empty body)) apart a.1 in
     let c = free_passed seven 3 (cond (is_clear s) [] body) 0 (free_passed seven 2 head 0 b.1) in
-    let l = leb-true (length head + length (inner_signs s) + length body + 1) 4096 (ask-passed (leb (counted_length s head body) 4096) apart c).0 in
+    let l = leb-true (length head + length (inner_signs s) + length body + 1) counted_limit (ask-passed (leb (counted_length s head body) counted_limit) apart c).0 in
     (omega (arith, l), omega (arith, l))

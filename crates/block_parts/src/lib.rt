@@ -2,6 +2,7 @@
 #![tactic(auto)]
 
 ghost use Rattle.std.specs.Prelude.{◌≡◌, cond, ◌&&◌, ◌||◌, ◌+◌, leb, eqb, length};
+ghost use Rattle.block.specs.Limits.{counted_limit};
 ghost use Rattle.block.specs.Scan.{first_failing};
 ghost use Rattle.block.specs.Write as rule;
 ghost use Rattle.block_parts.specs.Parts.{ask_parts, after_asked};
@@ -36,7 +37,7 @@ fn text_run(seven: bool, clear: bool, text: &[u8]) -> usize
 
 // Question 5: header, inner start, text and end sign are at most 4,096.
 fn count_fits(shape: Shape, header: usize, text: usize) -> bool
-    ensures { result ≡ leb (header + length (rule.inner_signs shape) + text + 1) 4096 }
+    ensures { result ≡ leb (header + length (rule.inner_signs shape) + text + 1) counted_limit }
 {
     if header > COUNTED_LIMIT {
         return false;

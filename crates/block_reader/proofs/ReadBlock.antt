@@ -26,6 +26,7 @@ use Rattle.block.specs.Read.{Framed, found, unframed, ask_check, Parts, ReadAnsw
 use Rattle.block.specs.Read as rule
 use Rattle.bits.specs.Calls.{called}
 use Rattle.block.specs.Answers.{Numbers, block, refused, shape_number, read_number, read_value, of_read_answer, after_reading, read_call}
+use Rattle.block.specs.Limits.{line_limit}
 use Rattle.block.proofs.Lists.{map-append}
 use Rattle.block.proofs.Passed.{Passed, passed}
 use Rattle.block_framing.specs.declared.Segments.{Segments}
@@ -101,7 +102,7 @@ module _ (m : Method) (p : Parity) (line : List ℕ) (r : Segments) (q : framed 
   text-length = carried.texts ∙ tally.texts ∙ sym (length-map (sift is_text ks line) (character (is_seven m)))
 
   -- the lengths are small enough to be added
-  pub lengths_small : (r.header ≤ 16384) × (r.text ≤ 16384)
+  pub lengths_small : (r.header ≤ line_limit) × (r.text ≤ line_limit)
   lengths_small = (
     omega (arith, carried.headers, tally.headers, length-sift is_header ks line, through.short),
     omega (arith, carried.texts, tally.texts, length-sift is_text ks line, through.short),

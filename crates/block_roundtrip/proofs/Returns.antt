@@ -27,6 +27,7 @@ use Rattle.block.specs.Answers.{of_read, of_read_answer, after_reading, read_cal
 use Rattle.guarantees.specs.Second.{parts_written}
 use Rattle.guarantees.proofs.Second.{second_property}
 use Rattle.roundtrip.proofs.Comparing.{joined}
+use Rattle.roundtrip.proofs.Comparing as comparing
 use Rattle.roundtrip.specs.declared.RoundTripError.{RoundTripError}
 use Rattle.roundtrip.specs.declared.RoundTripError.TheVariants.{NotRead}
 use Rattle.roundtrip.specs.Returns.{Returned, returned}
@@ -34,27 +35,25 @@ use Rattle.block_roundtrip.specs.Returns.{block_back, block_answer, block_output
 
 -- ---- what the output's length changes
 
+not_taken : (n v : ℕ) (b : Parts) → refusal n v ≡ taken b → ⊥
+not_taken n v b e = let z : ◌≡◌ {A = ℕ} 0 1 = cc in omega arith
+
+same_parts : (a b : Parts) → taken a ≡ taken b → a ≡ b
+same_parts a b e = cc
+
 -- 19, of the parts b
 abbrev by_room : Parts → ℕ → ReadAnswer
-by_room b space = cond (leb (output_length b) space) (taken b) (refusal 19 (output_length b))
-
-not_taken : {n v : ℕ} {b : Parts} → refusal n v ≡ taken b → ⊥
-not_taken {n = n} {v = v} {b = b} e = let z : ◌≡◌ {A = ℕ} 0 1 = cc in omega arith
+by_room = comparing.by_room taken refusal output_length 19 same_parts not_taken
 
 other_room : (m : Method) (p : Parity) (line : List ℕ) (room space : ℕ) (b : Parts) → read_block m p line room ≡ taken b → read_block m p line space ≡ by_room b space
 unfolding read_block
 other_room m p line room space b e = of-framed (framed m p line) e
   where
-    asked : (right holds : Bool) (a : Parts) → cond right (cond holds (taken a) (refusal 19 (output_length a))) (refusal 18 0) ≡ taken b
-        → cond right (by_room a space) (refusal 18 0) ≡ by_room b space
-    asked true true a q = let same_parts : a ≡ b = cc in ap (λ z. by_room z space) same_parts
-    asked true false a q = absurd (not_taken q)
-    asked false holds a q = absurd (not_taken q)
-
     of-framed : (f : Framed) → ask_check m p line room f ≡ taken b → ask_check m p line space f ≡ by_room b space
-    of-framed (unframed n v) q = absurd (not_taken q)
+    of-framed (unframed n v) q = absurd (not_taken n v b q)
     of-framed (found ks f k) q =
-        asked (same (bits_of (check_bytes ks line)) (check_of m p (counted ks line))) (leb (output_length (parts_of m line ks f k)) room) (parts_of m line ks f k) q
+        comparing.other_room taken refusal output_length 19 same_parts not_taken
+        (same (bits_of (check_bytes ks line)) (check_of m p (counted ks line))) (leb (output_length (parts_of m line ks f k)) room) (parts_of m line ks f k) b 18 0 space q
 
 -- ---- the calls
 

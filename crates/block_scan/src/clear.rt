@@ -21,7 +21,7 @@ impl ByteTest for ClearByte {
 }
 
 // How many bytes of clear text a part begins with.
-pub fn clear_run(seven: bool, part: &[u8]) -> usize
+pub(crate) fn clear_run(seven: bool, part: &[u8]) -> usize
     ensures { result ≡ first_failing (is_clear_byte seven) 0 part.now }
 {
     run(ClearByte { seven }, part)

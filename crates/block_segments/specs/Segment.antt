@@ -1,5 +1,7 @@
--- The bytes of a segment that is said to keep so many. Assumes nothing.
-use Rattle.std.specs.Prelude.{ℕ, Bool, false, cond, List, eqb, length}
+-- The bytes of a segment that is said to keep so many, and their copy. Assumes nothing.
+use Rattle.std.specs.Prelude.{◌≡◌, ℕ, Bool, false, cond, List, map, eqb, length}
+use Rattle.std.proofs.lemmas.List.Edits.{sets}
+use Rattle.block.specs.Characters.{character}
 use Rattle.block_framing.specs.Framings.{kept_bytes}
 use Rattle.block_segments.specs.declared.Segment.{Segment}
 
@@ -9,3 +11,7 @@ segment_bytes clear seven kept part = cond (eqb kept (length part)) part (kept_b
 
 abbrev pub kept_in : Bool → Segment → List ℕ
 kept_in seven s = segment_bytes s.clear seven s.kept s.bytes.now
+
+-- bytes copied to the start of an output, as characters: how many they are, and what the output holds then
+abbrev pub Copied : Bool → List ℕ → List ℕ → ℕ → List ℕ → Type 0
+Copied seven kept before n after = (n ≡ length kept) × (after ≡ sets before 0 (map (character seven) kept))

@@ -1,9 +1,9 @@
 // The characters of a segment copied to the start of an output. What does not fit there is left out.
-ghost use Rattle.std.specs.Prelude.{◌≡◌, false, [], ◌∷◌, ◌++◌, map, ◌+◌, ◌<◌, length};
+ghost use Rattle.std.specs.Prelude.{◌≡◌, false, [], ◌∷◌, ◌++◌, map, ◌+◌, ◌<◌};
 ghost use Rattle.std.proofs.lemmas.List.Edits.{sets};
 ghost use Rattle.block.specs.Characters as rule;
 ghost use Rattle.block_framing.specs.Framings.{kept_bytes};
-ghost use Rattle.block_segments.specs.Segment.{kept_in};
+ghost use Rattle.block_segments.specs.Segment.{kept_in, Copied};
 
 use crate::Segment;
 use crate::kept::Keeping;
@@ -23,7 +23,7 @@ fn put(out: &mut [u8], n: usize, b: u8) -> usize
 
 // The characters of the kept bytes of a segment, judged byte by byte; answers how many they are.
 pub fn copy_kept(seven: bool, clear: bool, part: &[u8], out: &mut [u8]) -> usize
-    ensures { (result ≡ length (kept_bytes clear seven false part.now)) × (out.new ≡ sets out.old 0 (map (rule.character seven) (kept_bytes clear seven false part.now))) }
+    ensures { Copied seven (kept_bytes clear seven false part.now) out.old result out.new }
 {
     let mut n = 0;
     let mut keeping = Keeping::new(clear, seven);
@@ -48,7 +48,7 @@ fn copy_whole(seven: bool, part: &[u8], out: &mut [u8])
 
 // The characters of a segment; answers how many they are.
 fn copy_segment(seven: bool, segment: &Segment<'_>, out: &mut [u8]) -> usize
-    ensures { (result ≡ length (kept_in seven segment.now)) × (out.new ≡ sets out.old 0 (map (rule.character seven) (kept_in seven segment.now))) }
+    ensures { Copied seven (kept_in seven segment.now) out.old result out.new }
 {
     if segment.kept == segment.bytes.len() {
         copy_whole(seven, segment.bytes, &mut *out);

@@ -18,7 +18,7 @@ pub fn is_kept(clear: bool, seven: bool, behind: bool, b: u8) -> bool
 
 // Whether the next byte stands behind a DLE of clear text.
 #[tactic(auto, unfolding(block_framing::specs::Framings::next_behind))]
-pub fn next_behind(clear: bool, behind: bool, b: u8) -> bool
+pub(crate) fn next_behind(clear: bool, behind: bool, b: u8) -> bool
     ensures { result ≡ next_behind clear behind b }
 {
     if clear {

@@ -15,5 +15,5 @@ mod kept;
 mod sum;
 
 pub use copy::{copy_both, copy_kept};
-pub use kept::{Keeping, is_kept, next_behind};
+pub use kept::{Keeping, is_kept};
 pub use sum::sum_kept;

@@ -14,6 +14,7 @@ use Rattle.block.specs.Characters.{is_seven}
 use Rattle.block.specs.Write.{line_of, WriteAnswer, written, refusal, write_block, write_output}
 use Rattle.block.specs.declared.WriteRefusal.{WriteRefusal}
 use Rattle.block.specs.Answers.{Numbers, line, refused, write_number, write_value, after_writing, write_call}
+use Rattle.block.specs.Limits.{counted_limit}
 use Rattle.block_store.specs.Store.{Stored}
 use Rattle.block_store.proofs.Stores.{stored_front}
 use Rattle.std.specs.Prelude.{Result, Ok, Err}
@@ -54,7 +55,7 @@ module _ (m : Method) (p : Parity) (s : Shape) (e : EndSign) (head body out : Li
   parts_refused {w} h =
       ap (λ a. after_writing a out) (ap (λ (t : Result Unit WriteRefusal). after_asked t (ask_room (line_of m p s e head body) (length out))) (sym h) ∙ parts_first)
 
-  pub parts_allowed : r ≡ Ok tt → (length head ≤ 4096) × (length body ≤ 4096)
+  pub parts_allowed : r ≡ Ok tt → (length head ≤ counted_limit) × (length body ≤ counted_limit)
   parts_allowed h = parts-passed (is_seven m) s head body (ap (λ (t : Result Unit WriteRefusal). after_asked t (written [])) (sym h) ∙ first (written []))
 
   pub parts_written_lem : {answer : Numbers} {after : List ℕ} → r ≡ Ok tt

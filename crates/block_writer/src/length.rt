@@ -1,11 +1,11 @@
 // Lengths on the line: of the text, and of the whole.
 ghost use Rattle.std.specs.Prelude.{◌≡◌, length};
+ghost use Rattle.block.specs.Lent.{line_of_parts};
 ghost use Rattle.block.specs.Write as rule;
-ghost use Rattle.block.specs.declared.Parity as declared;
 ghost use Rattle.block_line.specs.Line.{text_bytes};
 
 use crate::ShortParts;
-use block::{DLE, Method, check_length, is_clear};
+use block::{DLE, Link, check_length, is_clear};
 use block_signs::{end_signs, inner_signs, start_signs};
 
 impl ShortParts<'_> {
@@ -21,14 +21,14 @@ impl ShortParts<'_> {
         text.len() + text.iter().map(|b| usize::from(*b == DLE)).sum::<usize>()
     }
 
-    // The length of the line, which is the same under either parity.
-    pub(crate) fn line_length(self, method: Method) -> usize
-        ensures { (p : declared.Parity) → result ≡ length (rule.line_of method p self.entry.parts.now.shape self.entry.parts.now.end self.entry.parts.now.header.now self.entry.parts.now.text.now) }
+    // The length of the line.
+    pub(crate) fn line_length(self, link: Link) -> usize
+        ensures { result ≡ length (line_of_parts link self.entry.parts.now) }
     {
         let parts = self.parts;
         let signs = start_signs(parts.shape).len()
             + inner_signs(parts.shape).len()
             + end_signs(is_clear(parts.shape), parts.end).len();
-        signs + parts.header.len() + self.text_length() + check_length(method)
+        signs + parts.header.len() + self.text_length() + check_length(link.method)
     }
 }

@@ -4,6 +4,7 @@
 #![tactic(auto)]
 
 ghost use Rattle.std.specs.Prelude.{◌≤◌, length};
+ghost use Rattle.block.specs.Limits.{counted_limit};
 
 use block::Parts;
 
@@ -11,8 +12,8 @@ use block::Parts;
 #[derive(Clone, Copy)]
 pub(crate) struct ShortParts<'a> {
     pub parts: &'a Parts<'a>,
-    ghost header_small: { length parts.now.header.now ≤ 4096 },
-    ghost text_small: { length parts.now.text.now ≤ 4096 },
+    ghost header_small: { length parts.now.header.now ≤ counted_limit },
+    ghost text_small: { length parts.now.text.now ≤ counted_limit },
 }
 
 mod length;

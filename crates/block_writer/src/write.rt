@@ -15,7 +15,7 @@ impl ShortParts<'_> {
     fn write_line(self, link: Link, out: &mut [u8]) -> Result<usize, WriteRefusal>
         ensures { called (of_written result) out.new ≡ after_writing (ask_room (line_of_parts link self.entry.parts.now) (length out.old)) out.old }
     {
-        let needed = self.line_length(link.method);
+        let needed = self.line_length(link);
         if needed > out.len() {
             return Err(WriteRefusal::OutputShort(needed));
         }

@@ -29,35 +29,38 @@ use Rattle.roundtrip.specs.declared.RoundTripError.TheVariants.{NotRead}
 use Rattle.roundtrip.specs.Returns.{Returned, returned}
 use Rattle.frame_roundtrip.specs.Returns.{frame_back, frame_answer, frame_output, frame_returns, ContentOf, of_frame_return}
 use Rattle.roundtrip.proofs.Comparing.{joined}
+use Rattle.roundtrip.proofs.Comparing as comparing
 
 -- ---- what the output's length changes
 
+not_taken : (n v : ℕ) (s : List Bool) → refusal n v ≡ taken s → ⊥
+not_taken n v s e = let z : ◌≡◌ {A = ℕ} 0 1 = cc in omega arith
+
+same_content : (a b : List Bool) → taken a ≡ taken b → a ≡ b
+same_content a b e = cc
+
+abbrev content_bytes : List Bool → ℕ
+content_bytes s = bytes_for (length s)
+
 -- 38, of the content s
 abbrev by_room : List Bool → ℕ → ReadAnswer
-by_room s space = cond (leb (bytes_for (length s)) space) (taken s) (refusal 38 (bytes_for (length s)))
-
-not_taken : {n v : ℕ} {s : List Bool} → refusal n v ≡ taken s → ⊥
-not_taken {n = n} {v = v} {s = s} e = let z : ◌≡◌ {A = ℕ} 0 1 = cc in omega arith
+by_room = comparing.by_room taken refusal content_bytes 38 same_content not_taken
 
 other_room : (m : Parameters) (told : ℕ) (lent : List ℕ) (room space : ℕ) (s : List Bool) → read_frame m told lent room ≡ taken s
     → read_frame m told lent space ≡ by_room s space
 unfolding read_frame read_bits
 other_room m told lent room space s e = of_lent (leb told (8 * length lent)) e
   where
-    asked : (right holds : Bool) (a : List Bool) → cond right (cond holds (taken a) (refusal 38 (bytes_for (length a)))) (refusal 37 0) ≡ taken s
-        → cond right (by_room a space) (refusal 37 0) ≡ by_room s space
-    asked true true a q = let same-content : a ≡ s = cc in ap (λ z. by_room z space) same-content
-    asked true false a q = absurd (not_taken q)
-    asked false holds a q = absurd (not_taken q)
-
     of-framed : (f : Framed) → ask_check m room f ≡ taken s → ask_check m space f ≡ by_room s space
-    of-framed (unframed n v) q = absurd (not_taken q)
-    of-framed (found d) q = asked (same (check_in m d) (check_bits m (content_of m d))) (leb (bytes_for (length (content_of m d))) room) (content_of m d) q
+    of-framed (unframed n v) q = absurd (not_taken n v s q)
+    of-framed (found d) q =
+        comparing.other_room taken refusal content_bytes 38 same_content not_taken
+        (same (check_in m d) (check_bits m (content_of m d))) (leb (content_bytes (content_of m d)) room) (content_of m d) s 37 0 space q
 
     of_lent : (enough : Bool) → cond enough (ask_check m room (framed m (take told (bits_of lent)))) (refusal 31 0) ≡ taken s
         → cond enough (ask_check m space (framed m (take told (bits_of lent)))) (refusal 31 0) ≡ by_room s space
     of_lent true q = of-framed (framed m (take told (bits_of lent))) q
-    of_lent false q = absurd (not_taken q)
+    of_lent false q = absurd (not_taken 31 0 s q)
 
 reads_back : (m : FrameMethod) → FrameReadsBack (parameters_of m)
 reads_back Cyclic16 = second_property.frame_reads_back_5

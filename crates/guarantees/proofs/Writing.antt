@@ -16,6 +16,7 @@ use Rattle.block.specs.declared.Shape.{Shape}
 use Rattle.block.specs.declared.EndSign.{EndSign}
 use Rattle.block.specs.Characters.{is_seven}
 use Rattle.block.specs.Write.{is_clear, has_header, has_text, is_free, WriteAnswer, written, refusal, ask, ask_free, is_empty, counted_length, line_of, write_block}
+use Rattle.block.specs.Limits.{counted_limit}
 
 -- no byte of a part is a sign, and under methods 1 and 2 each is below 80
 abbrev pub Free : Bool → List ℕ → Type 0
@@ -32,7 +33,7 @@ pub record Allowed (seven : Bool) (s : Shape) (head body : List ℕ) : Type 0 wh
 -- and 5 and 6
 pub record Writes (m : Method) (p : Parity) (s : Shape) (e : EndSign) (head body line : List ℕ) (room : ℕ) : Type 0 where
   pub allowed : Allowed (is_seven m) s head body
-  pub count : counted_length s head body ≤ 4096
+  pub count : counted_length s head body ≤ counted_limit
   pub fits : length line ≤ room
   pub line_is : line ≡ line_of m p s e head body
 
@@ -58,7 +59,7 @@ passed m p s e head body line room w =
     let fits = (and-eq-true_iff (has_header s || is_empty head) (has_text s || is_empty body)).0 b.0 in
     let c = asked_free (is_seven m) 2 head 0 _ b.1 in
     let d = asked_free (is_seven m) 3 (cond (is_clear s) [] body) 0 _ c.1 in
-    let f = ask-passed (leb (counted_length s head body) 4096) apart d.1 in
+    let f = ask-passed (leb (counted_length s head body) counted_limit) apart d.1 in
     let g = ask-passed (leb (length (line_of m p s e head body)) room) apart f.1 in
     let q : line_of m p s e head body ≡ line = cc g.1 in
     record {
@@ -77,7 +78,7 @@ free_passes : (seven : Bool) (n : ℕ) (bs : List ℕ) (at : ℕ) (next : WriteA
 free_passes seven n [] at next f = refl
 free_passes seven n (b ∷ bs) at next f = ask_holds n at (ask_free seven n bs (at + 1) next) f.0 ∙ free_passes seven n bs (at + 1) next f.1
 
-pub passes : (m : Method) (p : Parity) (s : Shape) (e : EndSign) (head body : List ℕ) (room : ℕ) → Allowed (is_seven m) s head body → counted_length s head body ≤ 4096
+pub passes : (m : Method) (p : Parity) (s : Shape) (e : EndSign) (head body : List ℕ) (room : ℕ) → Allowed (is_seven m) s head body → counted_length s head body ≤ counted_limit
     → length (line_of m p s e head body) ≤ room → write_block m p s e head body room ≡ written (line_of m p s e head body)
 unfolding write_block
 passes m p s e head body room a few fits =

@@ -13,6 +13,7 @@ use Rattle.block.specs.Characters.{is_seven, character, sent}
 use Rattle.block.specs.Walk.{in_start_dle, in_header, in_header_dle, in_text, in_clear, in_clear_dle, Walked, halt, cut, onward}
 use Rattle.block.specs.Marks.{LeftOutByte, left_out}
 use Rattle.block.specs.Read.{Framed, ask, ask_parities, ask_walk, framing, framing_of, ReadAnswer, taken, refusal, ask_check, read_block}
+use Rattle.block.specs.Limits.{line_limit}
 use Rattle.guarantees.specs.Lines.{is_one_of}
 use Rattle.guarantees.specs.Blocks.{Accepts, Accepted}
 use Rattle.guarantees.specs.Fill.{first_sign, without_fill}
@@ -44,7 +45,7 @@ walk_before seven (b ∷ rest) at f = onward (walk_before seven rest (at + 1)) f
 
 unfoldable pub framed_before : Method → Parity → List ℕ → Framed
 framed_before m p line =
-    ask (leb (length line) 16384) 11 0
+    ask (leb (length line) line_limit) 11 0
     (cond (is_seven m) (ask_parities p line 0 (ask_walk m line (walk_before (is_seven m) line 0 Start))) (ask_walk m line (walk_before (is_seven m) line 0 Start)))
 
 unfoldable pub read_before : Method → Parity → List ℕ → ℕ → ReadAnswer
@@ -89,14 +90,14 @@ moved_byte k o = record { place = o.place + k; value = o.value }
 -- k SYN ahead of a line, 16,384 bytes at most in all
 pub record LeadingFill (m : Method) (p : Parity) (k : ℕ) : Type 0 where
   -- the same parts, at the same output lengths; or the same number, its place moved by k
-  pub same_answer : (line : List ℕ) (room : ℕ) → length (fill m p k ++ line) ≤ 16384
+  pub same_answer : (line : List ℕ) (room : ℕ) → length (fill m p k ++ line) ≤ line_limit
       → read_block m p (fill m p k ++ line) room ≡ moved_answer k (read_block m p line room)
   -- so an accepted line stays accepted
-  pub stays_accepted : (line : List ℕ) → length (fill m p k ++ line) ≤ 16384 → Accepted m p line → Accepted m p (fill m p k ++ line)
+  pub stays_accepted : (line : List ℕ) → length (fill m p k ++ line) ≤ line_limit → Accepted m p line → Accepted m p (fill m p k ++ line)
   -- the framing begins with the fill, and the line's left-out bytes stand k places further
-  pub in_framing : (line : List ℕ) (os : List LeftOutByte) → length (fill m p k ++ line) ≤ 16384 → framing_of m p line ≡ framing os
+  pub in_framing : (line : List ℕ) (os : List LeftOutByte) → length (fill m p k ++ line) ≤ line_limit → framing_of m p line ≡ framing os
       → framing_of m p (fill m p k ++ line) ≡ framing (left_out 0 (replicate k LeftOut) (fill m p k) ++ map (moved_byte k) os)
   -- writing back what was read drops it
   pub dropped : (line : List ℕ) → without_fill m (fill m p k ++ line) ≡ without_fill m line
   -- SYN alone is no start
-  pub syn_alone : (room : ℕ) → k ≤ 16384 → read_block m p (fill m p k) room ≡ refusal 13 0
+  pub syn_alone : (room : ℕ) → k ≤ line_limit → read_block m p (fill m p k) room ≡ refusal 13 0

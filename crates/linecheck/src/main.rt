@@ -5,9 +5,12 @@
 
 ghost use Rattle.std.specs.Prelude.{◌≤◌, length, IfOk};
 
-use block::{Block, Link, Method, Parity, ReadRefusal};
+use block::{Block, LINE_LIMIT, Link, Method, Parity, ReadRefusal};
 use std::io;
 use std::io::Read;
+
+// How many bytes the settings take.
+const SETTINGS: usize = 2;
 
 // The settings are characters, and a digit and a letter are no codes of the C calls.
 fn method_of(digit: u8) -> Option<Method> {
@@ -58,7 +61,7 @@ fn run(rt: &impl Print, input: &[u8]) -> io::Result<()> {
     let Some((link, line)) = settings_of(input) else {
         return print!(rt; "settings");
     };
-    let mut out = [0u8; 16384];
+    let mut out = [0u8; LINE_LIMIT];
     match block_reader::read_block(link, line, &mut out) {
         Ok(b) => print_taken(rt, b),
         Err(refusal) => print_refused(rt, refusal),
@@ -81,7 +84,7 @@ fn read_full<R: Read>(input: &mut R, buffer: &mut [u8]) -> io::Result<usize>
 }
 
 fn main(rt: HostRuntime) -> io::Result<()> {
-    let mut input = [0u8; 16387];
+    let mut input = [0u8; SETTINGS + LINE_LIMIT + 1];
     let n = read_full(&mut rt.stdin(), &mut input)?;
     run(&rt, &input[..n])?;
     print!(&rt; "\n")

@@ -2,8 +2,9 @@
 use mathlib.Core.Path.{◌≡◌, refl, sym, ap, ap₂, ◌∙◌}
 use Prim.Native.Nat.{ℕ, ◌+◌, ◌-◌}
 use native.Mathlib.Omega.{arith}
-use mathlib.Core.Bool.{Bool, true, false}
+use mathlib.Core.Bool.{Bool, true, false, cond}
 use mathlib.Core.List.{List, ◌++◌}
+use lib.Dec.{leb}
 use lib.ListN.{length, take, drop}
 use lib.Seq.{take-add, take-take, take_at, drop_at}
 use Rattle.std.specs.Bool.{Decides}
@@ -12,6 +13,18 @@ use Rattle.roundtrip.specs.Returns.{Returned, returned}
 -- an answer, a line and an output, each by the rule
 pub joined : {a a₁ : Returned} {l l₁ o o₁ : List ℕ} → a ≡ a₁ → l ≡ l₁ → o ≡ o₁ → returned a l o ≡ returned a₁ l₁ o₁
 joined a l o = cc
+
+-- answers whose last question is that for room, `size` of what was read: where one output was long enough, the answer for another
+module _ {Read Answer : Type 0} (taken : Read → Answer) (refusal : ℕ → ℕ → Answer) (size : Read → ℕ) (number : ℕ)
+    (one_to_one : (a b : Read) → taken a ≡ taken b → a ≡ b) (not_taken : (n v : ℕ) (b : Read) → refusal n v ≡ taken b → ⊥) where
+  abbrev pub by_room : Read → ℕ → Answer
+  by_room b room = cond (leb (size b) room) (taken b) (refusal number (size b))
+
+  pub other_room : (right holds : Bool) (a b : Read) (n v room : ℕ) → cond right (cond holds (taken a) (refusal number (size a))) (refusal n v) ≡ taken b
+      → cond right (by_room a room) (refusal n v) ≡ by_room b room
+  other_room true true a b n v room e = ap (λ z. by_room z room) (one_to_one a b e)
+  other_room true false a b n v room e = absurd (not_taken number (size a) b e)
+  other_room false holds a b n v room e = absurd (not_taken n v b e)
 
 not-both : {t : Bool} → t ≡ false → t ≡ true → ⊥
 not-both f e = let z : ◌≡◌ {A = ℕ} 0 1 = cc in omega arith

@@ -22,6 +22,7 @@ use Rattle.block.specs.Characters.{character}
 use Rattle.block.specs.Marks.{counted}
 use Rattle.block.specs.Check.{check_of, check_length}
 use Rattle.block.specs.Read.{found, framed, framing_of}
+use Rattle.block.specs.Limits.{counted_limit}
 use Rattle.guarantees.specs.Lines.{SameFraming, TwoAccepted, distance, differing_checked}
 use Rattle.guarantees.specs.Blocks.{Accepted, checked_bits, blocks}
 use Rattle.guarantees.specs.Third.{method_3}
@@ -54,7 +55,7 @@ unfolding sign_of character framed check_length check_of check_bits formula meth
 framed-first = refl
 
 -- as many as a block may count
-pub longest_count : length (counted marks first) ≡ 4096
+pub longest_count : length (counted marks first) ≡ counted_limit
 longest_count = refl
 
 right-first : CheckRight method.Cyclic Even marks first

@@ -3,7 +3,7 @@
 use super::bits;
 use super::division::{APPENDIX_1, APPENDIX_3};
 use super::grammar::{walk, Walked};
-use super::signs::{Link, Shape, Text, DLE, RESERVED};
+use super::signs::{Link, Shape, Text, DLE, ETB, ETX, SOH, STX, SYN, US};
 use super::{ask, Refusal};
 
 /// The most bytes of a line that is read.
@@ -24,7 +24,7 @@ pub struct Parts {
 
 /// Writes the line of a block: questions 1 to 5.
 pub fn write(parts: &Parts) -> Result<Vec<u8>, Refusal> {
-    ask_parts(parts)?;
+    ask_parts(parts.link, parts.shape, &parts.header, &parts.text)?;
     let clear = parts.shape.text == Text::Clear;
     let (start, inner_start) = parts.shape.starts();
     let end = [parts.end_sign];
@@ -44,14 +44,7 @@ pub fn write(parts: &Parts) -> Result<Vec<u8>, Refusal> {
 }
 
 /// Asks what can be asked of the parts one by one: questions 1 to 4.
-fn ask_parts(parts: &Parts) -> Result<(), Refusal> {
-    let Parts {
-        link,
-        shape,
-        header,
-        text,
-        ..
-    } = parts;
+pub fn ask_parts(link: Link, shape: Shape, header: &[u8], text: &[u8]) -> Result<(), Refusal> {
     let clear = shape.text == Text::Clear;
     ask(!(clear && link.seven_bits()), Refusal::plain(1))?;
     ask(shape.header || header.is_empty(), Refusal::plain(4))?;
@@ -59,16 +52,20 @@ fn ask_parts(parts: &Parts) -> Result<(), Refusal> {
         shape.text != Text::Absent || text.is_empty(),
         Refusal::plain(4),
     )?;
-    ask_characters(*link, header, 2)?;
+    ask_characters(link, header, 2)?;
     if !clear {
-        ask_characters(*link, text, 3)?;
+        ask_characters(link, text, 3)?;
     }
     Ok(())
 }
 
 /// Asks whether every byte may stand in a header or a plain text.
 fn ask_characters(link: Link, part: &[u8], number: u32) -> Result<(), Refusal> {
-    let wrong = |byte: &u8| RESERVED.contains(byte) || (link.seven_bits() && *byte >= 0x80);
+    let seven = link.seven_bits();
+    let wrong = |byte: &u8| match *byte {
+        SOH | STX | ETX | DLE | SYN | ETB | US => true,
+        byte => seven && byte >= 0x80,
+    };
     match part.iter().position(wrong) {
         Some(place) => Err(Refusal::with(number, place)),
         None => Ok(()),

@@ -17,6 +17,7 @@ use Rattle.block.specs.Marks.{counted, check_bytes}
 use Rattle.block.specs.Check.{check_of, check_length}
 use Rattle.block.proofs.CheckLaws as check_bytes_lem
 use Rattle.block.specs.Read.{Framed, found, unframed, framed, ask_check, read_block}
+use Rattle.block.specs.Limits.{counted_limit}
 use Rattle.guarantees.specs.Blocks.{Accepted, checked_bits, blocks}
 use Rattle.guarantees.proofs.Lines.Masks.{length-checked}
 use Rattle.guarantees.proofs.Lines.Cyclic.{CyclicPairs}
@@ -26,7 +27,7 @@ use Rattle.guarantees.proofs.Blocks.Bridge.{checked_bits_lem, all-passed, checke
 -- ---- one law over both methods
 
 module _ (m : Method) (k : Parameters) (rule : (p : Parity) (bs : List ℕ) → check_of m p bs ≡ check_bits k (bits_of bs))
-    (two : check_length m ≡ 2) (limit : k.limit ≡ 4096) where
+    (two : check_length m ≡ 2) (limit : k.limit ≡ counted_limit) where
   module _ (p : Parity) (line : List ℕ) (r : Found m p line) where
     whole : checked_bits m p line ≡ bits_of (counted r.marks line) ++ bits_of (check_bytes r.marks line)
     whole = checked_bits_lem m p line r ∙ bits_of-append (counted r.marks line) (check_bytes r.marks line)

@@ -23,6 +23,7 @@ use Rattle.block.specs.Walk.{Stop, ended, refused, Walked, judge, cut, onward, w
 use Rattle.block.specs.Marks.{counted, check_bytes}
 use Rattle.block.specs.Check.{check_of, check_length}
 use Rattle.block.specs.Read.{Framed, found, unframed, ask, ask_parities, ask_end, ask_walk, framed, ask_check, Parts, parts_of, output_length, ReadAnswer, taken, refusal, read_block}
+use Rattle.block.specs.Limits.{counted_limit, line_limit}
 use Rattle.block.proofs.CheckLaws.{check_length_lem}
 use Rattle.block.proofs.Walks.{marks-within}
 use Rattle.guarantees.specs.Lines.{is_one_of}
@@ -89,7 +90,7 @@ module _ {ns : List ℕ} (lists : Lists ns) where
   end_in m line ks (ended f e) short h =
       ask_in (leb (length ks + check_length m) (length line)) 52 (length ks) _ short
       (ask_in (leb (length line) (length ks + check_length m)) 53 (length ks) _ (λ q. lists.check_long)
-      (ask_in (leb (length (counted ks line)) 4096) 17 0 (found ks f e) (λ q. lists.too_many) tt))
+      (ask_in (leb (length (counted ks line)) counted_limit) 17 0 (found ks f e) (λ q. lists.too_many) tt))
 
   framed_in : (m : Method) (p : Parity) (line : List ℕ)
       → (leb (length (walk (is_seven m) line 0 Start).marks + check_length m) (length line) ≡ false → is_one_of ns 52 ≡ true) → FramedIn ns (framed m p line)
@@ -98,7 +99,7 @@ module _ {ns : List ℕ} (lists : Lists ns) where
       let w = walk (is_seven m) line 0 Start in
       let next = ask_walk m line w in
       let h = end_in m line w.marks w.stop short (walk_in (is_seven m) line 0 Start) in
-      ask_in (leb (length line) 16384) 11 0 _ (λ e. lists.too_long)
+      ask_in (leb (length line) line_limit) 11 0 _ (λ e. lists.too_long)
       (either_in (is_seven m) (ask_parities p line 0 next) next (parities_in p line 0 next h) h)
 
 abbrev pub FramedNumbered : Framed → Type 0

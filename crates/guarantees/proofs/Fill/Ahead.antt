@@ -18,6 +18,7 @@ use Rattle.block.specs.Characters.{is_seven, sent}
 use Rattle.block.specs.Walk.{judge}
 use Rattle.block.specs.Marks.{is_counted, LeftOutByte, left_out_if, left_out}
 use Rattle.block.specs.Read.{found, framed, framing, framing_by, framing_of, ReadAnswer, taken, refusal, ask_check, read_block}
+use Rattle.block.specs.Limits.{line_limit}
 use Rattle.block.proofs.Start.{empty_line}
 use Rattle.guarantees.specs.Blocks.{Accepts, Accepted}
 use Rattle.guarantees.specs.Fill.{is_fill, first_sign, unfilled_behind, unfilled, without_fill}
@@ -74,22 +75,22 @@ left_out-ahead (suc k) at b ks line =
 -- ---- lines
 
 module _ (m : Method) (p : Parity) where
-  same_answer : (k : ℕ) (line : List ℕ) (room : ℕ) → length (fill m p k ++ line) ≤ 16384
+  same_answer : (k : ℕ) (line : List ℕ) (room : ℕ) → length (fill m p k ++ line) ≤ line_limit
       → read_block m p (fill m p k ++ line) room ≡ moved_answer k (read_block m p line room)
   same_answer zero line room l = moved_none (read_block m p line room)
   same_answer (suc k) line room l =
       read_moved m p (fill m p k ++ line) room l ∙ ap (moved_answer 1) (same_answer k line room (omega arith))
       ∙ moved_more k (read_block m p line room)
 
-  stays_accepted : (k : ℕ) (line : List ℕ) → length (fill m p k ++ line) ≤ 16384 → Accepted m p line → Accepted m p (fill m p k ++ line)
+  stays_accepted : (k : ℕ) (line : List ℕ) → length (fill m p k ++ line) ≤ line_limit → Accepted m p line → Accepted m p (fill m p k ++ line)
   stays_accepted k line l acc room = rw (same_answer k line room l) (accepts_moved k (read_block m p line room) (acc room))
 
-  marks-ahead : (k : ℕ) (line : List ℕ) {ks : List Mark} {f : Field} {e : EndSign} → length (fill m p k ++ line) ≤ 16384
+  marks-ahead : (k : ℕ) (line : List ℕ) {ks : List Mark} {f : Field} {e : EndSign} → length (fill m p k ++ line) ≤ line_limit
       → framed m p line ≡ found ks f e → framed m p (fill m p k ++ line) ≡ found (replicate k LeftOut ++ ks) f e
   marks-ahead zero line l q = q
   marks-ahead (suc k) line l q = framed-moved m p (fill m p k ++ line) l ∙ ap moved_framed (marks-ahead k line (omega arith) q)
 
-  in_framing : (k : ℕ) (line : List ℕ) (os : List LeftOutByte) → length (fill m p k ++ line) ≤ 16384 → framing_of m p line ≡ framing os
+  in_framing : (k : ℕ) (line : List ℕ) (os : List LeftOutByte) → length (fill m p k ++ line) ≤ line_limit → framing_of m p line ≡ framing os
       → framing_of m p (fill m p k ++ line) ≡ framing (left_out 0 (replicate k LeftOut) (fill m p k) ++ map (moved_byte k) os)
   unfolding framing_of
   in_framing k line os l q = go (found_framing m p line (λ n. let z : ◌≡◌ {A = ℕ} 0 1 = cc in omega arith))
@@ -113,7 +114,7 @@ module _ (m : Method) (p : Parity) where
       ap (λ s. cons_if (not (is_fill Start s (first_sign seven rest))) (sent seven p SYN) (behind (judge seven Start s))) (syn_sign seven p)
       ∙ dropped k line
 
-  syn_alone : (k room : ℕ) → k ≤ 16384 → read_block m p (fill m p k) room ≡ refusal 13 0
+  syn_alone : (k room : ℕ) → k ≤ line_limit → read_block m p (fill m p k) room ≡ refusal 13 0
   unfolding read_block
   syn_alone k room l =
       let line = append-nil (fill m p k) in

@@ -16,6 +16,7 @@ use Rattle.block.specs.Signs.{Sign, soh, stx, etx, dle, syn, etb, us, other, sig
 use Rattle.block.specs.Characters.{is_seven, character, parity_right}
 use Rattle.block.specs.Walk.{Walked, ahead, in_start, in_start_dle, in_header, in_header_dle, in_text, in_clear, in_clear_dle, judge, onward, walk}
 use Rattle.block.specs.Read.{Framed, found, unframed, ask, ask_parities, ask_walk, framed, ask_check, read_block}
+use Rattle.block.specs.Limits.{line_limit}
 use Rattle.guarantees.specs.Blocks.{Accepts}
 use Rattle.guarantees.specs.Fill.{first_sign}
 use Rattle.guarantees.specs.LeadingFill.{in_start_before, judge_before, walk_before, framed_before, read_before, BeginsWithSyn, ReadAsBefore}
@@ -132,12 +133,12 @@ not_accepted m p line room (unframed n v) h a = omega arith
 module _ (m : Method) (p : Parity) where
   -- the questions up to 17, by the walk over a line
   abbrev framed_by : List ℕ → Walked → Framed
-  framed_by line w = ask (leb (length line) 16384) 11 0 (cond (is_seven m) (ask_parities p line 0 (ask_walk m line w)) (ask_walk m line w))
+  framed_by line w = ask (leb (length line) line_limit) 11 0 (cond (is_seven m) (ask_parities p line 0 (ask_walk m line w)) (ask_walk m line w))
 
   walk_refused : (line : List ℕ) (w : Walked) → Refused (ask_walk m line w) → Refused (framed_by line w)
   walk_refused line w h =
       let next = ask_walk m line w in
-      ask_refused (leb (length line) 16384) 11 0 _ (omega arith)
+      ask_refused (leb (length line) line_limit) 11 0 _ (omega arith)
       (either_refused (is_seven m) (ask_parities p line 0 next) next (parities_refused p line 0 next h) h)
 
   syn_refused : (line : List ℕ) → BeginsWithSyn m line → Refused (framed_before m p line)

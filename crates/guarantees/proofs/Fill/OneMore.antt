@@ -23,6 +23,7 @@ use Rattle.block.specs.Walk.{Stop, ended, refused, Walked, ahead, halt, cut, in_
 use Rattle.block.specs.Marks.{counted, check_bytes}
 use Rattle.block.specs.Check.{check_of, check_length}
 use Rattle.block.specs.Read.{Framed, found, unframed, ask, ask_parities, ask_end, ask_walk, framed, Parts, parts_of, output_length, ask_check, read_block}
+use Rattle.block.specs.Limits.{counted_limit, line_limit}
 use Rattle.block.proofs.Start.{syn_ahead}
 use Rattle.guarantees.specs.LeadingFill.{moved_value, moved_answer}
 use Rattle.guarantees.proofs.Blocks.Numbers.{answer}
@@ -110,7 +111,7 @@ end_moved m b line w = go w.stop
     go (refused n v) = refl
     go (ended f e) =
         let ks = w.marks in
-        let few = leb (length (counted ks line)) 4096 in
+        let few = leb (length (counted ks line)) counted_limit in
         let n : suc (length ks) + check_length m ≡ suc (length ks + check_length m) = omega arith in
         let short = leb (length ks + check_length m) (length line) in
         let long = leb (length line) (length ks + check_length m) in
@@ -165,14 +166,14 @@ module _ (m : Method) (p : Parity) (line : List ℕ) where
       ap (ask_walk m longer) (syn_ahead (is_seven m) (sent (is_seven m) p SYN) line 0 (syn_sign (is_seven m) p) ∙ ap (ahead LeftOut) (start-moved (is_seven m) line))
       ∙ end_moved m (sent (is_seven m) p SYN) line walked
 
-  pub framed-moved : length longer ≤ 16384 → framed m p longer ≡ moved_framed (framed m p line)
+  pub framed-moved : length longer ≤ line_limit → framed m p longer ≡ moved_framed (framed m p line)
   unfolding framed
   framed-moved l =
-      let h : length line ≤ 16384 = omega arith in
-      rw (le-leb (length longer) 16384 l, le-leb (length line) 16384 h)
+      let h : length line ≤ line_limit = omega arith in
+      rw (le-leb (length longer) line_limit l, le-leb (length line) line_limit h)
       (ap (λ next. cond (is_seven m) (ask_parities p longer 0 next) next) walked-moved
       ∙ either_moved (is_seven m) p line (ask_walk m line walked))
 
-  pub read_moved : (room : ℕ) → length longer ≤ 16384 → read_block m p longer room ≡ moved_answer 1 (read_block m p line room)
+  pub read_moved : (room : ℕ) → length longer ≤ line_limit → read_block m p longer room ≡ moved_answer 1 (read_block m p line room)
   unfolding read_block
   read_moved room l = ap (ask_check m p longer room) (framed-moved l) ∙ check-moved m p _ line room (framed m p line)

@@ -19,6 +19,7 @@ use Rattle.block.specs.Marks.{counted, check_bytes, header, text, has_inner, sha
 use Rattle.block.specs.Check.{check_of}
 use Rattle.block.specs.Read.{Parts}
 use Rattle.block.specs.Write.{written, counted_bytes, counted_length, framed_bytes, line_of, write_block}
+use Rattle.block.specs.Limits.{counted_limit}
 use Rattle.guarantees.specs.Fill.{unfilled, without_fill}
 use Rattle.block.proofs.Passed.{Passed, passed}
 use Rattle.guarantees.specs.Second.{ReadWritesBack}
@@ -54,7 +55,7 @@ module _ (m : Method) (p : Parity) (line : List ℕ) (ks : List Mark) (f : Field
   written_again : (space : ℕ) → length (without_fill m line) ≤ space
       → write_block m p (shape_of (has_inner ks) f) e (header (is_seven m) ks line) (text (is_seven m) ks line) space ≡ written (without_fill m line)
   written_again space fits =
-      let few : counted_length b.kind b.head b.body ≤ 4096 =
+      let few : counted_length b.kind b.head b.body ≤ counted_limit =
       omega (arith, w.few, ap length counted_again, length-counted m p b.kind e b.head b.body) in
       let l : length (line_of m p b.kind e b.head b.body) ≤ space = rw line_again fits in
       rw (b.is_left.is_inner_lem, b.is_shape, b.is_left.is_header_lem, b.is_left.is_text_lem)

@@ -21,6 +21,7 @@ use Rattle.block.specs.Marks.{is_header, is_text, is_counted, sift, counted, che
 use Rattle.block.specs.Check.{check_of, check_length}
 use Rattle.block.specs.Read.{Framed, found, framed, ask_parities, ask_end, Parts, parts_of, output_length, taken, ask_check, read_block}
 use Rattle.block.specs.Write.{counted_bytes, counted_length, line_of}
+use Rattle.block.specs.Limits.{counted_limit, line_limit}
 use Rattle.block.proofs.CheckLaws.{check_short, length-check_of}
 use Rattle.guarantees.specs.Second.{parts_written, WrittenReadsBack}
 use Rattle.guarantees.proofs.Writing.{Allowed, passed}
@@ -33,11 +34,11 @@ use Rattle.guarantees.proofs.Written.Lengths.{check-back, marks_short, length-co
 -- ---- a line that passes the questions up to 18
 
 record PassesReading (m : Method) (p : Parity) (line : List ℕ) (ks : List Mark) (f : Field) (e : EndSign) : Type 0 where
-  short : length line ≤ 16384
+  short : length line ≤ line_limit
   parities : (next : Framed) → cond (is_seven m) (ask_parities p line 0 next) next ≡ next
   walked : walk (is_seven m) line 0 Start ≡ record { marks = ks; stop = ended f e }
   check_follows : length line ≡ length ks + check_length m
-  count : length (counted ks line) ≤ 4096
+  count : length (counted ks line) ≤ counted_limit
   check-right : bits_of (check_bytes ks line) ≡ check_of m p (counted ks line)
 
 module _ {m : Method} {p : Parity} {line : List ℕ} {ks : List Mark} {f : Field} {e : EndSign} (h : PassesReading m p line ks f e) where
@@ -47,7 +48,7 @@ module _ {m : Method} {p : Parity} {line : List ℕ} {ks : List Mark} {f : Field
   framed_found : framed m p line ≡ found ks f e
   unfolding framed
   framed_found =
-      rw (le-leb (length line) 16384 h.short, h.walked)
+      rw (le-leb (length line) line_limit h.short, h.walked)
       (h.parities (ask_end m line ks (ended f e)) ∙ rw (le-leb needed (length line) (omega (arith, h.check_follows)), le-leb (length line) needed (omega (arith, h.check_follows)), le-leb _ _ h.count))
 
   line_taken : (b : Parts) (space : ℕ) → parts_of m line ks f e ≡ b → output_length b ≤ space → read_block m p line space ≡ taken b
@@ -59,7 +60,7 @@ module _ {m : Method} {p : Parity} {line : List ℕ} {ks : List Mark} {f : Field
 -- ---- the written line passes them
 
 module _ (m : Method) (p : Parity) (s : Shape) (e : EndSign) (head body : List ℕ) (c : Allowed (is_seven m) s head body)
-    (few : counted_length s head body ≤ 4096) where
+    (few : counted_length s head body ≤ counted_limit) where
   abbrev xs : List Marked
   xs = marked_line s e head body
 

@@ -24,6 +24,7 @@ use Rattle.block.specs.Signs.{DLE}
 use Rattle.block.specs.Characters.{with_parity}
 use Rattle.block.specs.Check.{check_of, xor_all}
 use Rattle.block.specs.Write.{is_clear, start_signs, counted_bytes, counted_length}
+use Rattle.block.specs.Limits.{counted_limit}
 use Rattle.block.proofs.CheckLaws.{matrix_character, check_bytes}
 use Rattle.guarantees.proofs.Written.Walk.{marks_of, marked_twice, marked_clear}
 use Rattle.guarantees.proofs.Written.Line.{marked_text, marked_line}
@@ -68,7 +69,7 @@ start_short shape.ClearText = omega arith
 start_short shape.HeaderClearText = omega arith
 
 module _ (s : Shape) (e : EndSign) (head body : List ℕ) where
-  pub marks_short : counted_length s head body ≤ 4096 → length (marks_of (marked_line s e head body)) ≤ 8194
+  pub marks_short : counted_length s head body ≤ counted_limit → length (marks_of (marked_line s e head body)) ≤ 8194
   unfolding counted_length
   marks_short h = simp (length-map, length-append) (omega (arith, start_short s, text_short (is_clear s) e body))
 

@@ -14,14 +14,14 @@ overflow_add-result-2 c =
 pub overflow_add-result-3 : goal.overflow_add-result-3
 overflow_add-result-3 c =
     let s = c.args.self.parts.now in
-    omega (arith, c.args.self.header_small, c.args.self.text_small, c.text_length.ensures, text_short (is_clear s.shape) s.text.now, c.check_length.ensures, check_short c.args.method)
+    omega (arith, c.args.self.header_small, c.args.self.text_small, c.text_length.ensures, text_short (is_clear s.shape) s.text.now, c.check_length.ensures, check_short c.args.link.method)
 
 pub returns : goal.returns
-returns c p =
+returns c =
     let s = c.args.self.parts.now in
     omega (
       arith,
-      length-line c.args.method p s.shape s.end s.header.now s.text.now,
+      length-line c.args.link.method c.args.link.parity s.shape s.end s.header.now s.text.now,
       c.len.ensures.length ∙ ap length c.start_signs.ensures,
       c.len-2.ensures.length ∙ ap length c.inner_signs.ensures,
       c.len-3.ensures.length ∙ ap length c.end_signs.ensures ∙ ap (λ t. length (end_signs t s.end)) c.is_clear.ensures,

@@ -4,13 +4,14 @@ use Rattle.std.specs.List.{sum_by}
 use Rattle.std.proofs.lemmas.Iterator.{YieldsList-from_slice}
 use Rattle.std.proofs.lemmas.Iterator.Adapters.{fits_from_length, at_most_from_yields_List}
 use Rattle.block.specs.Write as rule
+use Rattle.block.specs.Limits.{counted_limit}
 use Rattle.block_line.specs.Line.{text_bytes}
 use Rattle.block_writer.proofs.Lengths.{escaped_count, escaped_short}
 use Rattle.block_writer.proofs.ShortParts.text_length.Goals as goal
 
 pub sum-requires-clause-fits : goal.sum-requires-clause-fits
 sum-requires-clause-fits c =
-    fits_from_length _ _ 4096 (2 ^ 64) (at_most_from_yields_List (YieldsList-from_slice c.args.self.parts.now.text.now cc) c.args.self.text_small) c.map.ensures.closure (omega arith) (λ x r q k. search rules)
+    fits_from_length _ _ counted_limit (2 ^ 64) (at_most_from_yields_List (YieldsList-from_slice c.args.self.parts.now.text.now cc) c.args.self.text_small) c.map.ensures.closure (omega arith) (λ x r q k. search rules)
 
 pub overflow_add-result : goal.overflow_add-result
 overflow_add-result c =
