@@ -32,8 +32,8 @@ impl Generator for Ccitt16 {
     }
 
     fn enter_byte(register: u16, byte: u8) -> u16 {
-        let k = (register ^ (byte as u16)) % 256;
-        let quotient = (k ^ (k << 4)) % 256;
+        let k = (register ^ (byte as u16)) & 255;
+        let quotient = (k ^ (k << 4)) & 255;
         let remainder = ((quotient << 8) ^ (quotient << 3)) ^ (quotient >> 4);
         remainder ^ (register >> 8)
     }

@@ -2,7 +2,7 @@
 use mathlib.Core.Path.{◌≡◌, refl, sym, ap, ap₂, ◌∙◌, subst}
 use Prim.Native.Nat.{ℕ, ◌+◌, ◌*◌, ◌/◌, ◌%◌, ◌^◌, ◌≤◌, ◌<◌}
 use native.Mathlib.Nat.{add_comm, mod-eq_of_lt, lt_trans}
-use lib.Bits.{bit_or}
+use lib.Bits.{bit_and, bit_or}
 use lib.Pow.{pow-lt}
 use native.Mathlib.Omega.{arith}
 use mathlib.Core.Bool.{Bool, true, false, cond}
@@ -11,21 +11,25 @@ use lib.Dec.{eqb, lit<}
 use lib.ListN.{length, drop, set, length-append}
 use lib.Seq.{sets, sets-eq}
 use borrow.Author.Tests.{eqb-true, le-leb, lt-leb}
+use Rattle.std.proofs.lemmas.Nat.{and_mask}
 use Rattle.bits.specs.Bytes.{low_bits, bits_of, bytes_for, pack_into, pack}
 use Rattle.bits.specs.Calls.{called}
 use Rattle.bits.proofs.Bytes.{length-low_bits, length-bits_of}
 use Rattle.bits.proofs.Packing.{bits_of-little_endian, pack-low_bits, length-pack}
 use Rattle.cyclic.specs.Check.{Parameters, check_bits, checked_bits}
+use Rattle.frame_writer.specs.declared.Position.{Position}
+use Rattle.frame_writer.specs.declared.BitCount.{BitCount}
 use Rattle.frame_writer.specs.declared.BitWriter.{BitWriter}
-use Rattle.frame_writer.specs.declared.ZeroCount.{ZeroCount}
 use Rattle.frame.specs.Stuffing.{is_fifth, run_on, zero_if, stuff, run_after}
 use Rattle.frame.specs.Frame.{flag, enclose, frame_of}
 use Rattle.frame.specs.Write.{WriteAnswer, written, ask_room, write_frame, write_output}
 use Rattle.frame.specs.Answers.{Numbers, frame, refused, after_writing}
 use Rattle.zero_insertion.specs.Insertion.{run_before}
-use Rattle.frame_writer.specs.Steps.{Opens, position, stored, Puts, Counts}
+use Rattle.frame_writer.specs.Stepping.{pair, stepped}
+use Rattle.frame_writer.specs.Steps.{Opens, bits_before, stored, Counts, Puts}
 use Rattle.frame.proofs.Stuffing.{run_on_le}
-use Rattle.frame_writer.proofs.Writers.{length-parts, Putting, put_begin, put_turn, puts_append}
+use Rattle.frame_writer.proofs.Stepping.{divided, pair_divided, bits_stepped, bits_opened}
+use Rattle.frame_writer.proofs.Writers.{run, Putting, put_begin, put_turn, puts_append}
 use Rattle.frame.proofs.Words.{join, joined-or, joined_small, joined-bits, byte-bits, store_byte, pack_part, rest_small}
 
 -- ---- between two flags
@@ -35,9 +39,13 @@ pub opened-run : {before : ℕ} → before ≡ 0 → run_before before ≡ 0
 unfolding run_before low_bits run_after run_on
 opened-run e = ap run_before e
 
-opened-stored : (out : List ℕ) (w : BitWriter) → Opens w → (s : List Bool) → stored out w s ≡ sets out 1 (pack s)
+opened-stored : (out : List ℕ) (w : BitWriter) → Opens w.count → (s : List Bool) → stored out w s ≡ sets out 1 (pack s)
 unfolding low_bits
-opened-stored out w o s = rw (o.index_is, o.place_is) refl
+opened-stored out w o s =
+    let b = bits_opened w.count.at 8 o.pair_is in
+    let i : w.count.at.index ≡ 1 = omega (arith, b, w.count.at.place_small) in
+    let p : w.count.at.place ≡ 0 = omega (arith, b, w.count.at.place_small) in
+    rw (i, p) refl
 
 length-flag : length flag ≡ 8
 unfolding flag
@@ -47,17 +55,32 @@ pub length-enclose : (s : List Bool) → length (enclose s) ≡ 16 + length (stu
 unfolding enclose
 length-enclose s = length-append flag (stuff 0 s ++ flag) ∙ omega (arith, length-append (stuff 0 s) flag, length-flag)
 
--- the position of the writer and the room, with the number that the code has
-pub opened-length : {w : BitWriter} → Opens w → (s : List Bool) → 8 + position w + length (stuff (run_before w.before) s) ≡ length (enclose s)
-opened-length o s = omega (arith, o.index_is, o.place_is, length-enclose s, ap (λ r. length (stuff r s)) (opened-run o.before_is))
+-- the position and the room, with the number that the code has
+pub opened-length : {c : BitCount} → Opens c → (s : List Bool) → 8 + bits_before c.at + length (stuff (run_before c.before) s) ≡ length (enclose s)
+opened-length {c} o s = omega (arith, bits_opened c.at 8 o.pair_is, length-enclose s, ap (λ r. length (stuff r s)) (opened-run o.before_is))
+
+module _ {start c : BitCount} (s : List Bool) (o : Opens start) (k : Counts start s c) where
+  -- the bits before the closing flag
+  pub counted : bits_before c.at + 8 ≡ length (enclose s)
+  counted = omega (arith, bits_stepped start.at c.at (length (stuff (run_before start.before) s)) k.pair_is, opened-length o s)
+
+  -- those of the frame
+  pub closed : (end : Position) → pair end ≡ stepped 8 (pair c.at) → bits_before end ≡ length (enclose s)
+  closed end e = omega (arith, bits_stepped c.at end 8 e, counted)
+
+  -- the pair is the number of bits written divided by eight, and what is left over: the opening flag, the bits s and their zeros
+  pub pair_written : pair c.at ≡ divided (8 + length (stuff 0 s))
+  pair_written =
+      let n : bits_before c.at ≡ 8 + length (stuff 0 s) = omega (arith, counted, length-enclose s) in
+      pair_divided c.at ∙ ap divided n
 
 -- flag, content and check, flag
-pub put_enclosed : (s : List Bool) (out : List ℕ) {filled closed : List ℕ} {start w : BitWriter} → Opens start → bytes_for (length (enclose s)) ≤ length out
+pub put_enclosed : (s : List Bool) (out : List ℕ) {filled closed : List ℕ} {start w : BitWriter} → Opens start.count → bytes_for (length (enclose s)) ≤ length out
     → Puts (set out 0 0x7E) start s filled w → closed ≡ stored filled w flag
     → closed ≡ pack (enclose s) ++ drop (bytes_for (length (enclose s))) out
 unfolding enclose flag low_bits
 put_enclosed s out {filled} {closed} {start} {w} r h p e =
-    let t = stuff (run_before start.before) s ++ flag in
+    let t = stuff (run_before start.count.before) s ++ flag in
     let o : set out 0 (0x7E % 256) ≡ set out 0 0x7E = refl in
     let q : 0 + length (pack (enclose s)) ≡ bytes_for (length (enclose s)) = omega (arith, length-pack (enclose s)) in
     e ∙ p.rest flag ∙ opened-stored (set out 0 0x7E) start r t
@@ -71,42 +94,46 @@ put_enclosed s out {filled} {closed} {start} {w} r h p e =
 module _ (out : List ℕ) (w : BitWriter) where
   -- held bits and the flag
   abbrev word : ℕ
-  word = join w.place w.held 0x7E
+  word = join w.count.at.place w.held 0x7E
 
   flag_small : 0x7E < 2 ^ 8
   flag_small = lit< tt
 
-  word-or : bit_or w.held (0x7E * 2 ^ w.place % 4294967296) ≡ word
-  word-or = joined-or w.place w.held 8 0x7E w.held_small flag_small (omega (arith, w.place_small))
+  -- the same as code makes it
+  abbrev code_word : ℕ
+  code_word = bit_or w.held (0x7E * 2 ^ w.count.at.place % 4294967296)
 
-  word_bits_lem : low_bits w.place w.held ++ flag ≡ low_bits 8 word ++ low_bits w.place (word / 256)
+  word-or : code_word ≡ word
+  word-or = joined-or w.count.at.place w.held 8 0x7E w.held_small flag_small (omega (arith, w.count.at.place_small))
+
+  word_bits_lem : low_bits w.count.at.place w.held ++ flag ≡ low_bits 8 word ++ low_bits w.count.at.place (word / 256)
   unfolding flag
   word_bits_lem =
-      joined-bits w.place w.held 8 0x7E w.held_small flag_small ∙ ap (λ k. low_bits k word) (add_comm w.place 8) ∙ byte-bits w.place word
+      joined-bits w.count.at.place w.held 8 0x7E w.held_small flag_small ∙ ap (λ k. low_bits k word) (add_comm w.count.at.place 8) ∙ byte-bits w.count.at.place word
 
-  stored-flag : stored out w flag ≡ sets (set out w.index (word % 256)) (w.index + 1) (pack (low_bits w.place (word / 256)))
-  stored-flag = ap (λ z. sets out w.index (pack z)) word_bits_lem ∙ store_byte out w.index word (low_bits w.place (word / 256))
+  stored-flag : stored out w flag ≡ sets (set out w.count.at.index (word % 256)) (w.count.at.index + 1) (pack (low_bits w.count.at.place (word / 256)))
+  stored-flag = ap (λ z. sets out w.count.at.index (pack z)) word_bits_lem ∙ store_byte out w.count.at.index word (low_bits w.count.at.place (word / 256))
 
-  module _ {b : ℕ} (eb : b ≡ bit_or w.held (0x7E * 2 ^ w.place % 4294967296) % 256) where
+  module _ {b : ℕ} (eb : b ≡ bit_and code_word 255) where
     first_byte : b ≡ word % 256
-    first_byte = eb ∙ ap (λ x. x % 256) word-or
+    first_byte = eb ∙ and_mask code_word 8 ∙ ap (λ x. x % 256) word-or
 
-    pub flag_in_one : w.place ≡ 0 → set out w.index b ≡ stored out w flag
+    pub flag_in_one : w.count.at.place ≡ 0 → set out w.count.at.index b ≡ stored out w flag
     unfolding low_bits pack pack_into
     flag_in_one z =
-        ap (set out w.index) first_byte
-        ∙ sym (stored-flag ∙ ap (λ k. sets (set out w.index (word % 256)) (w.index + 1) (pack (low_bits k (word / 256)))) z)
+        ap (set out w.count.at.index) first_byte
+        ∙ sym (stored-flag ∙ ap (λ k. sets (set out w.count.at.index (word % 256)) (w.count.at.index + 1) (pack (low_bits k (word / 256)))) z)
 
-    pub flag_in_two : {d : ℕ} → d ≡ bit_or w.held (0x7E * 2 ^ w.place % 4294967296) / 256 % 256 → (w.place ≡ 0 → ⊥)
-        → set (set out w.index b) (w.index + 1) d ≡ stored out w flag
+    pub flag_in_two : {d : ℕ} → d ≡ bit_and (code_word / 256) 255 → (w.count.at.place ≡ 0 → ⊥)
+        → set (set out w.count.at.index b) (w.count.at.index + 1) d ≡ stored out w flag
     flag_in_two {d} ed n =
-        let small : word / 256 < 2 ^ w.place =
-        rest_small w.place (subst (λ (k : ℕ). word < 2 ^ k) (add_comm 8 w.place) (joined_small w.place w.held 8 0x7E w.held_small flag_small)) in
-        let byte : 2 ^ w.place < 2 ^ 8 = pow-lt w.place_small in
-        let p : 0 < w.place = omega (arith, n) in
-        let v : word / 256 % 256 ≡ word / 256 % 2 ^ w.place = mod-eq_of_lt (lt_trans small byte) ∙ sym (mod-eq_of_lt small) in
-        ap₂ (λ x y. set (set out w.index x) (w.index + 1) y) first_byte (ed ∙ ap (λ x. x / 256 % 256) word-or ∙ v)
-        ∙ sym (stored-flag ∙ ap (sets (set out w.index (word % 256)) (w.index + 1)) (pack_part w.place (word / 256) p w.place_small))
+        let small : word / 256 < 2 ^ w.count.at.place =
+        rest_small w.count.at.place (subst (λ (k : ℕ). word < 2 ^ k) (add_comm 8 w.count.at.place) (joined_small w.count.at.place w.held 8 0x7E w.held_small flag_small)) in
+        let byte : 2 ^ w.count.at.place < 2 ^ 8 = pow-lt w.count.at.place_small in
+        let p : 0 < w.count.at.place = omega (arith, n) in
+        let v : word / 256 % 256 ≡ word / 256 % 2 ^ w.count.at.place = mod-eq_of_lt (lt_trans small byte) ∙ sym (mod-eq_of_lt small) in
+        ap₂ (λ x y. set (set out w.count.at.index x) (w.count.at.index + 1) y) first_byte (ed ∙ and_mask (code_word / 256) 8 ∙ ap (λ x. x / 256 % 256) word-or ∙ v)
+        ∙ sym (stored-flag ∙ ap (sets (set out w.count.at.index (word % 256)) (w.count.at.index + 1)) (pack_part w.count.at.place (word / 256) p w.count.at.place_small))
 
 -- ---- how long a frame is
 
@@ -122,6 +149,17 @@ stuff_le run (true ∷ s) h = fifth (eqb run 4) refl (stuff_le (cond (eqb run 4)
     fifth false e k = omega arith
 stuff_le run (false ∷ s) h = let k = stuff_le 0 s (omega arith) in omega arith
 
+run_after_le : (run : ℕ) (s : List Bool) → run ≤ 4 → run_after run s ≤ 4
+unfolding run_after
+run_after_le run [] h = h
+run_after_le run (b ∷ s) h = run_after_le (run_on run b) s (run_on_le run b h)
+
+pub few_bits : (c : BitCount) (s : List Bool) → 5 * length (stuff (run c) s) ≤ 6 * length s + 4
+unfolding run_before
+few_bits c s =
+    let few : run c ≤ 4 = run_after_le 0 (low_bits 4 c.before) (omega arith) in
+    omega (arith, stuff_le (run c) s few, few)
+
 module _ (content check : List ℕ) where
   abbrev pub both : List Bool
   both = bits_of content ++ bits_of check
@@ -136,32 +174,8 @@ module _ (content check : List ℕ) where
     pub check_put : {filled : List ℕ} {tail : BitWriter} → Puts middle body (bits_of check) filled tail → length filled ≡ length middle → Puts out start both filled tail
     check_put pt lf = puts_append (bits_of content) (bits_of check) pb lm pt lf
 
-  -- the bits written, before the closing flag
-  pub put_position : {out after : List ℕ} {start w : BitWriter} → Opens start → Puts out start both after w → position w + 8 ≡ length (enclose both)
-  put_position o p = omega (arith, p.index_is, p.place_is, opened-length o both)
-
   pub frame_le : 5 * length (enclose both) ≤ 48 * length content + 48 * length check + 80
   frame_le = omega (arith, length-enclose both, stuff_le 0 both (omega arith), length_both)
-
-  -- the zeros of the content, then those of the check
-  module _ {start body : ZeroCount} (none : (start.zeros ≡ 0) × (start.before ≡ 0)) (eb : Counts start (bits_of content) body) where
-    pub body_few : body.zeros ≤ 8 * length content
-    body_few =
-        omega (
-          arith,
-          none.0,
-          eb.zeros_are,
-          length-bits_of content,
-          ap (λ r. length (stuff r (bits_of content))) (opened-run none.1),
-          stuff_le 0 (bits_of content) (omega arith),
-        )
-
-    pub zeros-counted : {tail : ZeroCount} → Counts body (bits_of check) tail → 8 * (length content + length check) + tail.zeros + 16 ≡ length (enclose both)
-    zeros-counted {tail} et =
-        let r : run_before body.before ≡ run_after 0 (bits_of content) = eb.run_is ∙ ap (λ z. run_after z (bits_of content)) (opened-run none.1) in
-        let m = ap (λ z. length (stuff z (bits_of content))) (opened-run none.1) in
-        let n = ap (λ z. length (stuff z (bits_of check))) r in
-        omega (arith, none.0, eb.zeros_are, et.zeros_are, length-bits_of content, length-bits_of check, length-enclose both, length-parts 0 (bits_of content) (bits_of check))
 
 -- ---- the bytes of the check carry its bits
 

@@ -1,38 +1,46 @@
-// Counting the bytes of a frame before it is written.
+// Counting the bits of a frame, of which its bytes are known before it is written.
 ghost use Rattle.std.specs.Prelude.{◌≡◌, ◌+◌, ◌*◌, ◌^◌, ◌<◌, ◌≤◌, length};
 ghost use Rattle.bits.specs.Bytes.{bits_of, bytes_for, low_bits};
 ghost use Rattle.frame.specs.Frame.{enclose};
-ghost use Rattle.frame_writer.specs.Steps.{Counts, checked};
+ghost use Rattle.frame_writer.specs.Steps.{Opens, Follows, Counts, checked};
 
-use crate::{Checked, ZeroCount};
+use crate::{BitCount, Checked, Position};
 use zero_insertion::stuff_byte;
 
-impl ZeroCount {
+impl BitCount {
     // Behind the opening flag.
-    fn open() -> ZeroCount
-        ensures { (result.zeros ≡ 0) × (result.before ≡ 0) }
+    pub(crate) fn open() -> BitCount
+        ensures { Opens result }
     {
-        ZeroCount {
-            zeros: 0,
+        BitCount {
+            at: Position { index: 1, place: 0 },
             before: 0,
         }
     }
 
-    // The zeros that go into a byte, added to those before: two at most.
-    fn count_byte(self, byte: u8) -> ZeroCount
-        requires { self.zeros + 2 < 2 ^ 64 }
-        ensures { Counts self (low_bits 8 byte) result × (result.zeros ≤ self.zeros + 2) }
+    // A byte with the zeros in it on, of which `before` are the last four bits.
+    pub(crate) fn after_sent(self, zeros: u32, before: u32) -> BitCount
+        requires { (zeros ≤ 2) × (before < 16) × (self.at.index + 2 < 2 ^ 64) }
+        ensures { Follows self zeros before result }
     {
-        let sent = stuff_byte(self.before, byte);
-        ZeroCount {
-            zeros: self.zeros + sent.zeros as usize,
-            before: sent.before,
+        BitCount {
+            at: self.at.after_sent(zeros),
+            before,
         }
     }
 
-    // The zeros that go into bytes, added to those before.
-    fn count_bytes(self, bytes: &[u8]) -> ZeroCount
-        requires { self.zeros + 2 * length bytes.now < 2 ^ 64 }
+    // A byte of content or check, with the zeros that go into it.
+    fn count_byte(self, byte: u8) -> BitCount
+        requires { self.at.index + 2 < 2 ^ 64 }
+        ensures { Counts self (low_bits 8 byte) result }
+    {
+        let sent = stuff_byte(self.before, byte);
+        self.after_sent(sent.zeros, sent.before)
+    }
+
+    // Bytes of content or check, with the zeros that go into them.
+    fn count_bytes(self, bytes: &[u8]) -> BitCount
+        requires { self.at.index + 2 * length bytes.now + 4 < 2 ^ 64 }
         ensures { Counts self (bits_of bytes.now) result }
     {
         let mut count = self;
@@ -48,9 +56,8 @@ impl Checked<'_> {
     pub(crate) fn frame_bytes(self) -> usize
         ensures { result ≡ bytes_for (length (enclose (checked self.entry))) }
     {
-        let body = ZeroCount::open().count_bytes(self.content);
+        let body = BitCount::open().count_bytes(self.content);
         let tail = body.count_bytes(self.check);
-        let bits = 8 * (self.content.len() + self.check.len()) + tail.zeros + 16;
-        bits.div_ceil(8)
+        tail.at.after_byte().bytes()
     }
 }

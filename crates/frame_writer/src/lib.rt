@@ -1,28 +1,33 @@
 // Writing a frame (document 01, part 4): `write_frame` puts a content and its check between two flags. It takes every input. A
-// refusal carries document 01's number and leaves every byte of the output; a success changes only the bytes of the frame.
+// refusal carries document 01's number and leaves every byte of the output; a success changes only the bytes of the frame. Nothing
+// is divided: the byte and the place of a bit are kept as a running pair (document 02, card 4).
 #![tactic(auto)]
 
 ghost use Rattle.std.specs.Prelude.{◌^◌, ◌<◌, ◌≤◌, length};
+ghost use Rattle.frame.proofs.Sizes.{content_limit};
 
-// Where the next bit of a frame goes: its byte and its place there. The bits of that byte so far are held; `before` are the last
-// four bits sent.
+// Where a bit of a frame goes: its byte, and its place there.
 #[derive(Clone, Copy)]
-pub(crate) struct BitWriter {
+pub(crate) struct Position {
     pub index: usize,
     pub place: u32,
-    pub held: u32,
-    pub before: u32,
     ghost place_small: { place < 8 },
-    ghost held_small: { held < 2 ^ place },
+}
+
+// The bits of a frame so far: where the next one goes, and the last four.
+#[derive(Clone, Copy)]
+pub(crate) struct BitCount {
+    pub at: Position,
+    pub before: u32,
     ghost before_small: { before < 16 },
 }
 
-// How many zeros were inserted, and the last four bits sent.
+// The bits of a frame as they are put: those of the byte that is not full are held.
 #[derive(Clone, Copy)]
-pub(crate) struct ZeroCount {
-    pub zeros: usize,
-    pub before: u32,
-    ghost before_small: { before < 16 },
+pub(crate) struct BitWriter {
+    pub count: BitCount,
+    pub held: u32,
+    ghost held_small: { held < 2 ^ count.at.place },
 }
 
 // Content and check of a frame, within what any method has.
@@ -30,11 +35,12 @@ pub(crate) struct ZeroCount {
 pub(crate) struct Checked<'a> {
     pub content: &'a [u8],
     pub check: &'a [u8],
-    ghost content_small: { length content.now ≤ 65536 },
+    ghost content_small: { length content.now ≤ content_limit },
     ghost check_small: { length check.now ≤ 4 },
 }
 
 mod count;
+mod pair;
 mod put;
 mod write;
 

@@ -1,67 +1,53 @@
 // Putting bits into bytes, the low bit first. A full byte is stored; the bits of the byte that is not full are held.
-ghost use Rattle.std.specs.Prelude.{◌≡◌, ◌+◌, ◌*◌, ◌^◌, ◌<◌, ◌≤◌, length};
+ghost use Rattle.std.specs.Prelude.{◌≡◌, ◌+◌, ◌*◌, ◌<◌, ◌≤◌, length};
 ghost use Rattle.bits.specs.Bytes.{low_bits, bits_of};
 ghost use Rattle.frame.specs.Stuffing.{stuff};
 ghost use Rattle.frame.specs.Frame.{flag};
 ghost use Rattle.zero_insertion.specs.Insertion.{run_before};
-ghost use Rattle.frame_writer.specs.Steps.{Opens, position, stored, Puts};
+ghost use Rattle.frame_writer.specs.Stepping.{pair, stepped};
+ghost use Rattle.frame_writer.specs.Steps.{Opens, bits_before, stored, Puts};
 
-use crate::BitWriter;
+use crate::{BitCount, BitWriter, Position};
 use frame::FLAG;
 use zero_insertion::stuff_byte;
 
 impl BitWriter {
     // Behind the opening flag, which is the first byte of the output.
     pub(crate) fn open() -> BitWriter
-        ensures { Opens result }
+        ensures { Opens result.count × (result.held ≡ 0) }
     {
         BitWriter {
-            index: 1,
-            place: 0,
+            count: BitCount::open(),
             held: 0,
-            before: 0,
         }
     }
 
     // Puts a byte of content or check, with the zeros that go into it.
     fn put_byte(self, out: &mut [u8], byte: u8) -> BitWriter
-        requires { position self + length (stuff (run_before self.before) (low_bits 8 byte)) ≤ 8 * length out.old }
+        requires { bits_before self.count.at + length (stuff (run_before self.count.before) (low_bits 8 byte)) ≤ 8 * length out.old }
         ensures { Puts out.old self (low_bits 8 byte) out.new result }
     {
-        let index = self.index;
-        let place = self.place;
-        let sent = stuff_byte(self.before, byte);
-        let zeros = sent.zeros;
-        let before = sent.before;
-        let held = self.held | (sent.bits << place);
-        out[index] = (held % 256) as u8;
-        if zeros == 0 {
+        let at = self.count.at;
+        let sent = stuff_byte(self.count.before, byte);
+        let held = self.held | (sent.bits << at.place);
+        let next = at.index + 1;
+        out[at.index] = (held & 255) as u8;
+        let count = self.count.after_sent(sent.zeros, sent.before);
+        if count.at.index == next {
             return BitWriter {
-                index: index + 1,
-                place,
+                count,
                 held: held >> 8,
-                before,
             };
         }
-        if place + zeros < 8 {
-            return BitWriter {
-                index: index + 1,
-                place: place + zeros,
-                held: held >> 8,
-                before,
-            };
-        }
-        out[index + 1] = ((held >> 8) % 256) as u8;
+        out[next] = ((held >> 8) & 255) as u8;
         BitWriter {
-            index: index + 2,
-            place: place + zeros - 8,
+            count,
             held: held >> 16,
-            before,
         }
     }
 
     pub(crate) fn put_bytes(self, out: &mut [u8], bytes: &[u8]) -> BitWriter
-        requires { position self + length (stuff (run_before self.before) (bits_of bytes.now)) ≤ 8 * length out.old }
+        requires { bits_before self.count.at + length (stuff (run_before self.count.before) (bits_of bytes.now)) ≤ 8 * length out.old }
         ensures { Puts out.old self (bits_of bytes.now) out.new result }
     {
         let mut w = self;
@@ -71,19 +57,18 @@ impl BitWriter {
         w
     }
 
-    // The closing flag goes in as it is. The bits of the frame.
-    pub(crate) fn put_flag(self, out: &mut [u8]) -> usize
-        requires { (position self + 8 ≤ 8 * length out.old) × (position self + 8 < 2 ^ 64) }
-        ensures { (result ≡ position self + 8) × (out.new ≡ stored out.old self flag) }
+    // The closing flag goes in as it is. The position behind it.
+    pub(crate) fn put_flag(self, out: &mut [u8]) -> Position
+        requires { bits_before self.count.at + 8 ≤ 8 * length out.old }
+        ensures { (pair result ≡ stepped 8 (pair self.count.at)) × (out.new ≡ stored out.old self flag) }
     {
-        let index = self.index;
-        let place = self.place;
-        let held = self.held | ((FLAG as u32) << place);
-        out[index] = (held % 256) as u8;
-        if place == 0 {
-            return 8 * index + 8;
+        let at = self.count.at;
+        let held = self.held | ((FLAG as u32) << at.place);
+        out[at.index] = (held & 255) as u8;
+        if at.place == 0 {
+            return at.after_byte();
         }
-        out[index + 1] = ((held >> 8) % 256) as u8;
-        8 * index + place as usize + 8
+        out[at.index + 1] = ((held >> 8) & 255) as u8;
+        at.after_byte()
     }
 }

@@ -23,7 +23,7 @@ impl Checked<'_> {
         out[0] = FLAG;
         let body = BitWriter::open().put_bytes(&mut *out, self.content);
         let tail = body.put_bytes(&mut *out, self.check);
-        tail.put_flag(&mut *out)
+        tail.put_flag(&mut *out).bits()
     }
 
     // Question 23, then the frame. Five bits take six at most, so where the output has room for that no zero is counted.

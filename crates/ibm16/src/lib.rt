@@ -32,10 +32,10 @@ impl Generator for Ibm16 {
     }
 
     fn enter_byte(register: u16, byte: u8) -> u16 {
-        let k = (register ^ (byte as u16)) % 256;
+        let k = (register ^ (byte as u16)) & 255;
         let a = k ^ (k << 1);
         let b = a ^ (a << 2);
-        let quotient = (b ^ (b << 4)) % 256;
+        let quotient = (b ^ (b << 4)) & 255;
         let remainder = ((quotient << 8) ^ (quotient << 6)) ^ (quotient >> 7);
         remainder ^ (register >> 8)
     }

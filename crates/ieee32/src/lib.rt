@@ -59,8 +59,8 @@ impl Generator for Ieee32 {
     }
 
     fn enter_byte(register: u32, byte: u8) -> u32 {
-        let k = (register ^ (byte as u32)) % 256;
-        let quotient = (k ^ (k << 6)) % 256;
+        let k = (register ^ (byte as u32)) & 255;
+        let quotient = (k ^ (k << 6)) & 255;
         let next = quotient ^ (quotient << 1);
         let tenth = quotient ^ (quotient << 10);
         let low = ((next << 1) ^ (next << 13)) ^ ((next << 16) ^ (next << 19));

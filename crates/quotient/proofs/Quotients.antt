@@ -5,7 +5,8 @@ use Prim.Native.Nat.{ℕ, ◌+◌, ◌*◌, ◌/◌, ◌%◌, ◌^◌, ◌<◌}
 use native.Mathlib.Nat.{mod-lt}
 use mathlib.Core.Bool.{Bool, xor}
 use mathlib.Core.List.{List}
-use lib.Bits.{bit_xor}
+use Rattle.std.proofs.lemmas.Nat.{and_mask}
+use lib.Bits.{bit_and, bit_xor}
 use lib.Dec.{T, eqb, eqb→eq, lit<}
 use lib.ListN.{length}
 use Rattle.bits.specs.Bytes.{low_bits, value}
@@ -72,11 +73,12 @@ unfoldable pub at_each_byte : ℕ → List Bool → (ℕ → ℕ) → Bool
 at_each_byte w p f = every 256 (λ k. eqb (f k) (entry w p k))
 
 pub byte_enters : (j : ℕ) (p : List Bool) (f : ℕ → ℕ) → length p ≡ 8 + j → T (at_each_byte (8 + j) p f) → (register byte : ℕ) → register < 2 ^ (8 + j)
-    → low_bits (8 + j) (bit_xor (f (bit_xor register byte % 256)) (register / 256)) ≡ enter p (low_bits (8 + j) register) (low_bits 8 byte)
+    → low_bits (8 + j) (bit_xor (f (bit_and (bit_xor register byte) 255)) (register / 256)) ≡ enter p (low_bits (8 + j) register) (low_bits 8 byte)
 unfolding at_each_byte enter_by_table
 byte_enters j p f wide right register byte fits =
     let k = bit_xor register byte % 256 in
-    ap (λ x. low_bits (8 + j) (bit_xor x (register / 256)))
+    ap (λ x. low_bits (8 + j) (bit_xor (f x) (register / 256))) (and_mask (bit_xor register byte) 8)
+    ∙ ap (λ x. low_bits (8 + j) (bit_xor x (register / 256)))
     (eqb→eq (f k) (entry (8 + j) p k) (every_at 256 (λ i. eqb (f i) (entry (8 + j) p i)) right k (mod-lt (bit_xor register byte) (lit< tt)))
     ∙ sym (byte-entry j p wide register byte))
     ∙ table_enters_byte j p wide register byte fits
@@ -87,7 +89,7 @@ shl w k x = (x * 2 ^ k) % 2 ^ w
 
 abbrev pub ccitt_byte : ℕ → ℕ
 ccitt_byte k =
-    let q = bit_xor k (shl 16 4 k) % 256 in
+    let q = bit_and (bit_xor k (shl 16 4 k)) 255 in
     bit_xor (bit_xor (shl 16 8 q) (shl 16 3 q)) (q / 2 ^ 4)
 
 pub ccitt_byte_lem : T (at_each_byte 16 ccitt16 ccitt_byte)
@@ -98,7 +100,7 @@ abbrev pub ibm_byte : ℕ → ℕ
 ibm_byte k =
     let a = bit_xor k (shl 16 1 k) in
     let b = bit_xor a (shl 16 2 a) in
-    let q = bit_xor b (shl 16 4 b) % 256 in
+    let q = bit_and (bit_xor b (shl 16 4 b)) 255 in
     bit_xor (bit_xor (shl 16 8 q) (shl 16 6 q)) (q / 2 ^ 7)
 
 pub ibm_byte_lem : T (at_each_byte 16 ibm16 ibm_byte)
@@ -107,7 +109,7 @@ ibm_byte_lem = tt
 
 abbrev pub ieee_byte : ℕ → ℕ
 ieee_byte k =
-    let q = bit_xor k (shl 32 6 k) % 256 in
+    let q = bit_and (bit_xor k (shl 32 6 k)) 255 in
     let next = bit_xor q (shl 32 1 q) in
     let tenth = bit_xor q (shl 32 10 q) in
     bit_xor (bit_xor (bit_xor (shl 32 1 next) (shl 32 13 next)) (bit_xor (shl 32 16 next) (shl 32 19 next)))

@@ -19,6 +19,6 @@ pub fn words_before(size: usize, least: usize, last: usize) -> usize
     if size < least {
         0
     } else {
-        size.saturating_sub(last) / 8
+        size.saturating_sub(last) >> 3
     }
 }

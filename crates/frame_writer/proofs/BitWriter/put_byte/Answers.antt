@@ -2,61 +2,39 @@
 use mathlib.Core.Path.{refl}
 use native.Mathlib.Omega.{arith}
 use lib.ListN.{length-set}
-use Rattle.frame_writer.proofs.Writers.{sent-length, once_small, plain_small, put_once, twice_small, put_twice}
+use Rattle.frame_writer.proofs.Writers.{sent-length, held_once, held_twice, position_twice, put_once, put_twice}
 use Rattle.frame_writer.proofs.BitWriter.put_byte.Goals as goal
 
-pub bounds-out-index : goal.bounds-out-index
-bounds-out-index c = omega (arith, c.requires, sent-length (c.stuff_byte-sent.ensures c.args.self.before_small))
+pub after_sent-count-requires : goal.after_sent-count-requires
+after_sent-count-requires c =
+    let k = c.stuff_byte-sent.ensures c.args.self.count.before_small in
+    (omega (arith, k.few), k.before_small, omega (arith, c.requires, sent-length k))
+
+pub bounds-out-at : goal.bounds-out-at
+bounds-out-at c = omega (arith, c.requires, sent-length (c.stuff_byte-sent.ensures c.args.self.count.before_small))
 
 pub invariant_of-result : goal.invariant_of-result
 invariant_of-result c =
     let a = c.args in
-    let k = c.stuff_byte-sent.ensures a.self.before_small in
-    record {
-      place_small = a.self.place_small;
-      held_small = plain_small a.out.now a.self a.byte k c.if-zeros-eq0.true;
-      before_small = k.before_small;
-    }
+    record { held_small = held_once a.out.now a.self a.byte (c.stuff_byte-sent.ensures a.self.count.before_small) c.after_sent-count.ensures c.if-count-next.true }
 
-pub returns-then-zeros-eq0 : goal.returns-then-zeros-eq0
-returns-then-zeros-eq0 c =
+pub returns-then-count-next : goal.returns-then-count-next
+returns-then-count-next c =
     let a = c.args in
-    let k = c.stuff_byte-sent.ensures a.self.before_small in
-    put_once a.out.now a.self a.byte k refl (omega (arith, a.self.place_small)) refl (omega arith) refl refl
+    put_once a.out.now a.self a.byte (c.stuff_byte-sent.ensures a.self.count.before_small) refl c.after_sent-count.ensures c.if-count-next.true refl
 
-pub invariant_of-result-then-place-zeros-lt8 : goal.invariant_of-result-then-place-zeros-lt8
-invariant_of-result-then-place-zeros-lt8 c =
+pub bounds-out-next : goal.bounds-out-next
+bounds-out-next c =
     let a = c.args in
-    let k = c.stuff_byte-sent.ensures a.self.before_small in
-    record {
-      place_small = c.if-place-zeros-lt8.true;
-      held_small = once_small a.out.now a.self a.byte k;
-      before_small = k.before_small;
-    }
-
-pub returns-then-place-zeros-lt8 : goal.returns-then-place-zeros-lt8
-returns-then-place-zeros-lt8 c =
-    let a = c.args in
-    let k = c.stuff_byte-sent.ensures a.self.before_small in
-    put_once a.out.now a.self a.byte k refl c.if-place-zeros-lt8.true refl refl refl refl
-
-pub bounds-out-index-2 : goal.bounds-out-index-2
-bounds-out-index-2 c =
-    let k = c.stuff_byte-sent.ensures c.args.self.before_small in
-    simp length-set (omega (arith, c.requires, sent-length k, c.if-place-zeros-lt8.false))
+    let k = c.stuff_byte-sent.ensures a.self.count.before_small in
+    simp length-set (omega (arith, c.requires, sent-length k, (position_twice a.out.now a.self a.byte k c.after_sent-count.ensures c.if-count-next.false).0))
 
 pub invariant_of-result-2 : goal.invariant_of-result-2
 invariant_of-result-2 c =
     let a = c.args in
-    let k = c.stuff_byte-sent.ensures a.self.before_small in
-    record {
-      place_small = omega (arith, k.few, a.self.place_small);
-      held_small = twice_small a.out.now a.self a.byte k c.if-place-zeros-lt8.false;
-      before_small = k.before_small;
-    }
+    record { held_small = held_twice a.out.now a.self a.byte (c.stuff_byte-sent.ensures a.self.count.before_small) c.after_sent-count.ensures c.if-count-next.false }
 
 pub returns : goal.returns
 returns c =
     let a = c.args in
-    let k = c.stuff_byte-sent.ensures a.self.before_small in
-    put_twice a.out.now a.self a.byte k refl c.if-place-zeros-lt8.false refl refl refl refl refl
+    put_twice a.out.now a.self a.byte (c.stuff_byte-sent.ensures a.self.count.before_small) refl c.after_sent-count.ensures c.if-count-next.false refl refl
