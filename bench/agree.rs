@@ -109,7 +109,7 @@ impl Agreement<'_> {
         let line = lines::line(random, &parts, fill);
         self.read_block(method, parity, &line, room(random, longest));
         self.read_block(
-            random.below(6) as u8,
+            random.below(9) as u8,
             random.below(3) as u8,
             &line,
             line.len(),
@@ -140,7 +140,7 @@ impl Agreement<'_> {
 
     /// Around the limits of the counted bytes, of a line and of a content.
     fn limits(&mut self, random: &mut Random) {
-        let shapes = [(1, 1), (2, 0), (3, 1), (3, 2), (4, 3), (4, 4)];
+        let shapes = [(1, 1), (2, 0), (3, 1), (3, 2), (4, 3), (4, 4), (7, 1)];
         for (counted, (method, shape)) in (4_093..=4_097).flat_map(|n| shapes.map(|pair| (n, pair)))
         {
             let (link, shape) = (Link { method, odd: true }, SHAPES[shape]);

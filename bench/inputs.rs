@@ -1,7 +1,7 @@
 //! The timed inputs: one case for each call, kind and length.
 
 use crate::calls::{Calls, Form, LIBRARY};
-use crate::peer::signs::SYN;
+use crate::peer::signs::{Link, SYN};
 use crate::random::Random;
 use std::hint::black_box;
 
@@ -40,13 +40,14 @@ fn written(form: &Form) -> Vec<u8> {
     line
 }
 
-/// A SYN before every twentieth byte of the text.
-fn filled(line: &[u8]) -> Vec<u8> {
+/// A fill sign before every twentieth byte of the text, in front of an end sign
+/// and two bytes of check.
+fn filled(line: &[u8], fill: u8) -> Vec<u8> {
     let (body, tail) = line[1..].split_at(line.len() - 4);
     let mut filled = vec![line[0]];
     for piece in body.chunks(20) {
         filled.extend(piece);
-        filled.push(SYN);
+        filled.push(fill);
     }
     filled.extend(tail);
     filled
@@ -82,7 +83,7 @@ pub fn read_block(random: &mut Random, method: u8, fill: bool, length: usize) ->
     let lines = several(length, || {
         let line = written(&form(random, method, length));
         if fill {
-            filled(&line)
+            filled(&line, Link { method, odd: false }.sent(SYN))
         } else {
             line
         }

@@ -75,6 +75,8 @@ fn blocks(random: &mut Random, word: &str) -> Table {
         (3, false, "method 3, plain text"),
         (3, true, "method 3, SYN every 20 bytes"),
         (4, false, "method 4, clear text"),
+        (7, false, "method 7, plain text"),
+        (7, true, "method 7, SYN every 20 bytes"),
     ];
     let mut rows = Rows::of(word);
     for (method, fill, kind) in kinds {

@@ -1,6 +1,6 @@
 //! The fast peer behind the C interface: codes in, numbers out.
 
-use crate::peer::signs::{Link, ENDS, SHAPES};
+use crate::peer::signs::{Link, ENDS, METHODS, SHAPES};
 use crate::peer::Refusal;
 use crate::peer_fast::{self, Parts};
 use std::slice;
@@ -23,7 +23,7 @@ unsafe fn answered<const N: usize>(answer: Result<[usize; N], Refusal>, values: 
 
 fn link(method: u8, parity: u8) -> Option<Link> {
     let odd = parity == 1;
-    ((1..=4).contains(&method) && parity <= 1).then_some(Link { method, odd })
+    (METHODS.contains(&method) && parity <= 1).then_some(Link { method, odd })
 }
 
 const UNKNOWN_CODE: Refusal = Refusal {

@@ -38,18 +38,19 @@ extern "C" {
 #define CORRIDOR_MATRIX 2 /* parity bits and one check character */
 #define CORRIDOR_CYCLIC 3 /* x^16+x^12+x^5+1, appendix 1 */
 #define CORRIDOR_CYCLIC_ALTERNATIVE 4 /* x^16+x^15+x^2+1, appendix 3 */
+#define CORRIDOR_DIAGONAL 7 /* the matrix and a diagonal character */
 
 /* Methods of a frame. */
 #define CORRIDOR_FRAME_16 5 /* the 16-bit check of appendix 1 */
 #define CORRIDOR_FRAME_32 6 /* the 32-bit check of appendix 2 */
 
-/* Parity of every byte under methods 1 and 2. Methods 3 and 4 carry none; the
- * code still has to be one of the two. */
+/* Parity of every byte under methods 1, 2 and 7. Methods 3 and 4 carry none;
+ * the code still has to be one of the two. */
 #define CORRIDOR_EVEN 0 /* asynchronous links */
 #define CORRIDOR_ODD 1  /* synchronous links */
 
 /* Shapes of a block. Clear text is transparent: it carries any byte; methods
- * 1 and 2 carry none. */
+ * 1, 2 and 7 carry none. */
 #define CORRIDOR_HEADER 1            /* SOH header */
 #define CORRIDOR_TEXT 2              /* STX text */
 #define CORRIDOR_HEADER_TEXT 3       /* SOH header STX text */
@@ -75,14 +76,14 @@ extern "C" {
 /*
  * Reads one block.
  *
- *   method       1 to 4
+ *   method       1 to 4, or 7
  *   parity       0 even, 1 odd
  *   line         the whole line: fill signs, if any, start, fields, end
  *                sign, check
  *   out          takes the header, then the text, both without fill signs,
  *                without doubled DLE and without the inner start; top bits
- *                clear in methods 1 and 2. As many bytes as the line always
- *                suffice.
+ *                clear in methods 1, 2 and 7. As many bytes as the line
+ *                always suffice.
  *
  * Returns 0:     answer[0] shape 1 to 5
  *                answer[1] end sign 03, 17 or 1F
@@ -92,21 +93,22 @@ extern "C" {
  * Otherwise answer[0] is the value named here (else 0), the rest is 0:
  *    1  a code is outside its list
  *   11  the line is over 16,384 bytes
- *   12  methods 1, 2: a byte has the wrong parity; first such place. Asked of
- *       every byte, also behind the end sign
+ *   12  methods 1, 2, 7: a byte has the wrong parity; first such place. Asked
+ *       of every byte, also behind the end sign
  *   13  behind leading SYN the line does not start with SOH, STX or, in
  *       methods 3 and 4, DLE STX
  *   14  a byte is out of place before the end sign; its place. In a header:
  *       SOH, and DLE unless STX follows. In plain text: SOH, STX and DLE. In
  *       clear text: DLE before anything but DLE, SYN or an end sign; the
- *       place is that of the DLE. Methods 1, 2: DLE everywhere
+ *       place is that of the DLE. Methods 1, 2, 7: DLE everywhere
  *   15  no end sign was reached (also a DLE of header or clear text in
  *       methods 3, 4 with nothing after it)
- *   52  fewer bytes than the check's (0, 1, 2, 2 by method) follow the end
- *       sign; place after the end sign
+ *   52  fewer bytes than the check's (0, 1, 2, 2 by methods 1 to 4, 2 in
+ *       method 7) follow the end sign; place after the end sign
  *   53  more bytes than the check's follow it; the same place
  *   17  more than 4,096 bytes are counted
- *   18  the check is wrong
+ *   18  the check is wrong; method 7: the row check, the first of its two
+ *   54  method 7: the diagonal character is wrong
  *   19  out is too short; bytes needed. The line is sound: read it again with
  *       a longer output
  */
@@ -118,21 +120,22 @@ uint32_t corridor_read_block(uint8_t method, uint8_t parity,
 /*
  * Writes one block, without fill signs.
  *
- *   method       1 to 4
+ *   method       1 to 4, or 7
  *   parity       0 even, 1 odd
  *   shape        1 to 5
  *   end_sign     03, 17 or 1F
  *   header, text the parts; a part that the shape lacks has length 0. Bytes
  *                of header and plain text are none of the signs 01 02 03 10 16
- *                17 1F and, in methods 1 and 2, below 80. Clear text is free
+ *                17 1F and, in methods 1, 2 and 7, below 80. Clear text is
+ *                free
  *   out          takes the line
  *
  * Returns 0:     *value is the length of the line in bytes
  * Otherwise *value is the value named here (else 0):
  *    1  a code is outside its list, or the method does not carry the shape
- *       (methods 1 and 2 carry no clear text)
+ *       (methods 1, 2 and 7 carry no clear text)
  *    4  a part that the shape lacks is not empty; asked before 2 and 3
- *    2  a header byte is reserved or, in methods 1, 2, not below 80; its
+ *    2  a header byte is reserved or, in methods 1, 2, 7, not below 80; its
  *       place in the header
  *    3  the same of plain text; its place in the text
  *    5  more than 4,096 bytes are counted

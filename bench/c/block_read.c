@@ -10,8 +10,9 @@ struct part { size_t from, to, kept; };
 struct walk {
     const uint8_t *line;
     size_t length, place, counted;
-    const uint32_t *table; /* NULL in methods 1 and 2, where the register is the sum */
+    const uint32_t *table; /* NULL in methods 1, 2 and 7, where the register is the sum */
     uint32_t reg;
+    uint8_t method, diagonals;
     struct part header, text;
     uint8_t shape;
 };
@@ -23,6 +24,7 @@ static void count(struct walk *w)
 {
     uint8_t b = w->line[w->place++];
     w->reg = w->table ? enter(w->table, w->reg, b) : w->reg ^ b;
+    w->diagonals = turn_in(w->diagonals, b);
     w->counted++;
 }
 
@@ -33,12 +35,15 @@ static void pass_characters(struct walk *w, struct part *p)
     const uint8_t *line = w->line;
     size_t length = w->length, i = w->place, fill = 0;
     uint32_t reg = w->reg;
-    uint8_t mask = table ? 0xff : 0x7f;
+    uint8_t mask = table ? 0xff : 0x7f, diagonals = w->diagonals;
+    int turns = w->method == 7;
     for (; i < length; i++) {
         uint8_t b = line[i], c = b & mask;
-        if (!is_reserved(c))
+        if (!is_reserved(c)) {
             reg = table ? enter(table, reg, b) : reg ^ b;
-        else if (c == SYN)
+            if (turns)
+                diagonals = turn_in(diagonals, b);
+        } else if (c == SYN)
             fill++;
         else
             break;
@@ -47,6 +52,7 @@ static void pass_characters(struct walk *w, struct part *p)
     w->counted += p->kept;
     w->place = i;
     w->reg = reg;
+    w->diagonals = diagonals;
 }
 
 static int walk_plain(struct walk *w)
@@ -153,16 +159,19 @@ static size_t first_wrong(uint8_t parity, const uint8_t *line, size_t length)
     return wrong ? i : length;
 }
 
-/* Question 18. */
-static int check_right(uint8_t method, uint8_t parity, const struct walk *w)
+/* Questions 18 and 54. */
+static uint32_t ask_check(uint8_t method, uint8_t parity, const struct walk *w)
 {
     const uint8_t *check = w->line + w->place;
     if (method == 1)
-        return 1;
-    if (method == 2)
-        return check[0] == with_parity(w->reg & 0x7f, parity);
+        return 0;
+    if (is_seven(method)) {
+        if (check[0] != with_parity(w->reg & 0x7f, parity))
+            return 18;
+        return method == 7 && check[1] != with_parity(turn_in(w->diagonals, check[0]), parity) ? 54 : 0;
+    }
     uint32_t want = method == 3 ? w->reg ^ 0xffff : w->reg;
-    return (check[0] | (uint32_t)check[1] << 8) == want;
+    return (check[0] | (uint32_t)check[1] << 8) == want ? 0 : 18;
 }
 
 /* Copies a part run by run: `left_out` is the fill sign or, in clear text, the first byte of a pair. */
@@ -198,10 +207,9 @@ static void hand_out(const struct walk *w, uint8_t parity, uint8_t *out)
 /* Questions 11 to 15, 52, 53 and 17. */
 static uint32_t find(uint8_t method, uint8_t parity, struct walk *w, size_t *place)
 {
-    static const size_t check_length[] = {0, 0, 1, 2, 2};
     if (w->length > LONGEST_LINE)
         return 11;
-    if (method <= 2) {
+    if (is_seven(method)) {
         *place = first_wrong(parity, w->line, w->length);
         if (*place < w->length)
             return 12;
@@ -210,9 +218,9 @@ static uint32_t find(uint8_t method, uint8_t parity, struct walk *w, size_t *pla
     *place = end == OUT_OF_PLACE || end == FOUND ? w->place : 0;
     if (end != FOUND)
         return (uint32_t)end;
-    if (w->length - w->place < check_length[method])
+    if (w->length - w->place < check_length(method))
         return 52;
-    if (w->length - w->place > check_length[method])
+    if (w->length - w->place > check_length(method))
         return 53;
     *place = 0;
     return w->counted > LONGEST_COUNT ? 17 : 0;
@@ -222,16 +230,17 @@ uint32_t plain_read_block(uint8_t method, uint8_t parity, const uint8_t *line, s
                           uint8_t *out, size_t out_length, size_t answer[5])
 {
     memset(answer, 0, 5 * sizeof *answer);
-    if (method < 1 || method > 4 || parity > 1)
+    if (!is_block_method(method) || parity > 1)
         return 1;
-    struct walk w = {.line = line, .length = line_length};
+    struct walk w = {.line = line, .length = line_length, .method = method};
     w.table = method == 3 ? table_3 : method == 4 ? table_4 : NULL;
     w.reg = method == 3 ? 0xffff : 0;
     uint32_t refusal = find(method, parity, &w, &answer[0]);
     if (refusal)
         return refusal;
-    if (!check_right(method, parity, &w))
-        return 18;
+    refusal = ask_check(method, parity, &w);
+    if (refusal)
+        return refusal;
     size_t needed = w.header.kept + w.text.kept;
     if (needed > out_length) {
         answer[0] = needed;

@@ -15,7 +15,6 @@ static const struct { uint8_t outer[2], outer_length, inner[2], inner_length; } 
     {{0}, 0, {0}, 0},      {{SOH}, 1, {0}, 0},      {{STX}, 1, {0}, 0},
     {{SOH}, 1, {STX}, 1},  {{DLE, STX}, 2, {0}, 0}, {{SOH}, 1, {DLE, STX}, 2}};
 
-static int is_seven(const struct form *f) { return f->method <= 2; }
 static int is_clear(const struct form *f) { return f->shape >= 4; }
 
 static inline uint8_t lesser(uint8_t a, uint8_t b) { return a < b ? a : b; }
@@ -48,16 +47,16 @@ static size_t first_reserved(int seven, const uint8_t *part, size_t length)
 static uint32_t ask_parts(const struct form *f, size_t *place)
 {
     int lacks_header = f->shape == 2 || f->shape == 4;
-    if (is_seven(f) && is_clear(f))
+    if (is_seven(f->method) && is_clear(f))
         return 1;
     if ((lacks_header && f->header_length) || (f->shape == 1 && f->text_length))
         return 4;
-    size_t at = first_reserved(is_seven(f), f->header, f->header_length);
+    size_t at = first_reserved(is_seven(f->method), f->header, f->header_length);
     if (at < f->header_length) {
         *place = at;
         return 2;
     }
-    at = is_clear(f) ? f->text_length : first_reserved(is_seven(f), f->text, f->text_length);
+    at = is_clear(f) ? f->text_length : first_reserved(is_seven(f->method), f->text, f->text_length);
     if (at < f->text_length) {
         *place = at;
         return 3;
@@ -72,9 +71,8 @@ static uint32_t ask_parts(const struct form *f, size_t *place)
 /* The length of the line: in clear text each DLE goes twice, and one stands before the end sign. */
 static size_t line_length(const struct form *f)
 {
-    static const size_t check_length[] = {0, 0, 1, 2, 2};
     size_t length = starts[f->shape].outer_length + f->header_length + starts[f->shape].inner_length
-        + f->text_length + 1 + check_length[f->method];
+        + f->text_length + 1 + check_length(f->method);
     if (is_clear(f)) {
         length++;
         for (size_t i = 0; i < f->text_length; i++)
@@ -114,16 +112,21 @@ static uint8_t *put_check_3_4(uint8_t *out, const struct form *f)
     return out;
 }
 
-/* Gives every byte its parity; method 2 adds the sum of what is counted. */
+/* Gives every byte its parity; methods 2 and 7 add the sum of what is counted, and 7 the diagonal character. */
 static void seal_seven(const struct form *f, uint8_t *line, uint8_t *end)
 {
-    uint8_t sum = 0, parity = f->parity;
+    uint8_t sum = 0, diagonals = 0, parity = f->parity;
     for (uint8_t *p = line + 1; p < end; p++)
         sum ^= *p;
+    if (f->method == 7)
+        for (uint8_t *p = line + 1; p < end; p++)
+            diagonals = turn_in(diagonals, *p);
     for (uint8_t *p = line; p < end; p++)
         *p = with_parity(*p, parity);
-    if (f->method == 2)
-        *end = with_parity(sum, parity);
+    if (f->method != 1)
+        end[0] = with_parity(sum, parity);
+    if (f->method == 7)
+        end[1] = with_parity(turn_in(diagonals, sum), parity);
 }
 
 static void write_line(const struct form *f, uint8_t *out)
@@ -138,7 +141,7 @@ static void write_line(const struct form *f, uint8_t *out)
         end = put(end, f->text, f->text_length);
     }
     *end++ = f->end_sign;
-    if (is_seven(f))
+    if (is_seven(f->method))
         seal_seven(f, out, end);
     else
         put_check_3_4(end, f);
@@ -150,7 +153,7 @@ uint32_t plain_write_block(uint8_t method, uint8_t parity, uint8_t shape, uint8_
 {
     struct form f = {method, parity, shape, end_sign, header, text, header_length, text_length};
     *value = 0;
-    if (method < 1 || method > 4 || parity > 1 || shape < 1 || shape > 5 || !is_end(end_sign))
+    if (!is_block_method(method) || parity > 1 || shape < 1 || shape > 5 || !is_end(end_sign))
         return 1;
     uint32_t refusal = ask_parts(&f, value);
     if (refusal)

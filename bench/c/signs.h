@@ -1,6 +1,7 @@
 /* The signs of a block and the parity of a byte. */
 #ifndef SIGNS_H
 #define SIGNS_H
+#include <stddef.h>
 #include <stdint.h>
 
 enum { SOH = 0x01, STX = 0x02, ETX = 0x03, DLE = 0x10, SYN = 0x16, ETB = 0x17, US = 0x1f };
@@ -27,4 +28,17 @@ static inline uint8_t with_parity(uint8_t c, uint8_t parity)
 {
     return (uint8_t)(c | (odd_ones(c) ^ parity) << 7);
 }
+
+/* A byte added to the register of the diagonals, whose seven rows then turn up by one. */
+static inline uint8_t turn_in(uint8_t diagonals, uint8_t b)
+{
+    uint8_t sum = (diagonals ^ b) & 0x7f;
+    return (uint8_t)((sum << 1 | sum >> 6) & 0x7f);
+}
+
+static inline int is_seven(uint8_t method) { return method <= 2 || method == 7; }
+
+static inline int is_block_method(uint8_t method) { return (method >= 1 && method <= 4) || method == 7; }
+
+static inline size_t check_length(uint8_t method) { return method <= 2 ? method - 1u : 2; }
 #endif

@@ -1,6 +1,6 @@
 //! Writing and reading of one block, question by question.
 
-use super::check::{Check, Register, Sum, APPENDIX_1, APPENDIX_3};
+use super::check::{Check, Register, Sum, Sums, APPENDIX_1, APPENDIX_3};
 use super::grammar::{walk, Part, Walked};
 use super::signs::{sent, sent_byte};
 use crate::peer::block::{ask_parts, LONGEST_COUNT, LONGEST_LINE};
@@ -29,7 +29,10 @@ pub fn read(link: Link, line: &[u8], out: &mut [u8]) -> Result<[usize; 5], Refus
     ask(line.len() <= LONGEST_LINE, Refusal::plain(11))?;
     if !link.seven_bits() {
         let right = |register: Register, tail: &[u8]| {
-            register.check() as u16 == u16::from_le_bytes([tail[0], tail[1]])
+            ask(
+                register.check() as u16 == u16::from_le_bytes([tail[0], tail[1]]),
+                Refusal::plain(18),
+            )
         };
         return take(link, line, register(link), right, out);
     }
@@ -38,16 +41,28 @@ pub fn read(link: Link, line: &[u8], out: &mut [u8]) -> Result<[usize; 5], Refus
         .iter()
         .position(|byte| sent_byte(table, *byte) != *byte);
     ask(wrong.is_none(), Refusal::with(12, wrong.unwrap_or(0)))?;
-    let right = |sum: Sum, tail: &[u8]| tail.iter().all(|byte| sent_byte(table, sum.0) == *byte);
+    let equal = |character: u8, byte: Option<&u8>| byte == Some(&sent_byte(table, character));
+    if link.method == 7 {
+        let right = |sums: Sums, tail: &[u8]| {
+            let [rows, diagonals] = sums.characters();
+            ask(equal(rows, tail.first()), Refusal::plain(18))?;
+            ask(equal(diagonals, tail.last()), Refusal::plain(54))
+        };
+        return take(link, line, Sums::NONE, right, out);
+    }
+    let right = |sum: Sum, tail: &[u8]| {
+        let right = tail.is_empty() || equal(sum.0, tail.first());
+        ask(right, Refusal::plain(18))
+    };
     take(link, line, Sum(0), right, out)
 }
 
-/// Questions 13 to 15, 52, 53 and 17 to 19.
+/// Questions 13 to 15, 52, 53, 17, those of the check and 19.
 fn take<C: Check>(
     link: Link,
     line: &[u8],
     check: C,
-    right: impl Fn(C, &[u8]) -> bool,
+    right: impl Fn(C, &[u8]) -> Result<(), Refusal>,
     out: &mut [u8],
 ) -> Result<[usize; 5], Refusal> {
     let walked = walk(line, check)?;
@@ -56,7 +71,7 @@ fn take<C: Check>(
     ask(tail.len() >= needed, Refusal::with(52, walked.behind))?;
     ask(tail.len() <= needed, Refusal::with(53, walked.behind))?;
     ask(walked.counted <= LONGEST_COUNT, Refusal::plain(17))?;
-    ask(right(walked.check, tail), Refusal::plain(18))?;
+    right(walked.check, tail)?;
     let needed = walked.header.length + walked.text.length;
     ask(needed <= out.len(), Refusal::with(19, needed))?;
     hand_out(&walked, line, out);
@@ -174,15 +189,23 @@ fn put_line(parts: &Parts, start: &[u8], inner_start: &[u8], out: &mut [u8]) {
     line.put(&(register.check() as u16).to_le_bytes());
 }
 
-/// Gives every byte its parity; method 2 adds the sum of what is counted.
+/// Gives every byte its parity; method 2 adds the sum of what is counted,
+/// method 7 that and the diagonal character.
 fn seal_seven(link: Link, mut line: Line) {
     let table = sent(link.odd);
     let mut sum = Sum(0);
     sum.enter_all(&line.out[1..line.length]);
+    let mut sums = Sums::NONE;
+    if link.method == 7 {
+        sums.enter_all(&line.out[1..line.length]);
+    }
     for byte in &mut line.out[..line.length] {
         *byte = sent_byte(table, *byte);
     }
     if link.method == 2 {
         line.put(&[sent_byte(table, sum.0)]);
+    }
+    if link.method == 7 {
+        line.put(&sums.characters().map(|c| sent_byte(table, c)));
     }
 }

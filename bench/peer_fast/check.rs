@@ -34,6 +34,39 @@ pub trait Check: Copy {
     }
 }
 
+/// Method 7: the sums of the rows, and the register of the diagonals, which
+/// turns up by one row behind each byte.
+#[derive(Clone, Copy)]
+pub struct Sums {
+    pub rows: u8,
+    pub diagonals: u8,
+}
+
+impl Check for Sums {
+    const SEVEN: bool = true;
+
+    fn enter(&mut self, byte: u8) {
+        self.rows ^= byte;
+        let sum = (self.diagonals ^ byte) & 0x7F;
+        self.diagonals = (sum << 1 | sum >> 6) & 0x7F;
+    }
+}
+
+impl Sums {
+    pub const NONE: Sums = Sums {
+        rows: 0,
+        diagonals: 0,
+    };
+
+    /// The characters of the row check and of the diagonals, which take the
+    /// row check in last.
+    pub fn characters(mut self) -> [u8; 2] {
+        let rows = self.rows & 0x7F;
+        self.enter(rows);
+        [rows, self.diagonals]
+    }
+}
+
 /// Methods 1 and 2: the sum modulo 2, bit by bit.
 #[derive(Clone, Copy)]
 pub struct Sum(pub u8);

@@ -1,5 +1,5 @@
 //! Safe Rust calls over the C interface of the corridor library: blocks
-//! (methods 1 to 4), frames (methods 5 and 6), the number check and the
+//! (methods 1 to 4 and 7), frames (methods 5 and 6), the number check and the
 //! cyclic checks of GOST 28082-89.
 //!
 //! The calls allocate nothing. Every call finishes with a full result or with
@@ -22,6 +22,8 @@ pub enum BlockMethod {
     Cyclic = 3,
     /// Method 4: x^16+x^15+x^2+1, appendix 3.
     CyclicAlternative = 4,
+    /// Method 7: the matrix, and a diagonal character behind its check.
+    Diagonal = 7,
 }
 
 /// How a frame is checked.
@@ -34,7 +36,8 @@ pub enum FrameMethod {
     Cyclic32 = 6,
 }
 
-/// The parity of every byte under methods 1 and 2; without effect on 3 and 4.
+/// The parity of every byte under methods 1, 2 and 7; without effect on 3 and
+/// 4.
 #[derive(Clone, Copy, PartialEq, Eq, Debug)]
 #[repr(u8)]
 pub enum Parity {

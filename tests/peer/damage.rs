@@ -15,6 +15,7 @@ mod burst;
 #[path = "../../bindings/rust/corridor.rs"]
 mod corridor;
 mod counts;
+mod diagonals;
 #[allow(dead_code)]
 mod frames;
 #[allow(dead_code)]
@@ -45,6 +46,7 @@ fn main() -> ExitCode {
     };
     substitution::run();
     burst::run();
+    diagonals::run();
     syndromes::run();
     pairs::shorter();
     if arguments.all {

@@ -2,7 +2,7 @@
 
 use crate::judge::{Form, Settings};
 use crate::peer::block::{self, Parts};
-use crate::peer::signs::{Link, ENDS, SHAPES};
+use crate::peer::signs::{Link, ENDS, METHODS, SHAPES};
 use crate::peer::{bits, frame, number, Refusal};
 
 /// What a call has to answer and what the output has to start with.
@@ -54,7 +54,7 @@ impl Expected {
 
 fn link(settings: Settings) -> Option<Link> {
     let Settings { method, parity } = settings;
-    ((1..=4).contains(&method) && parity <= 1).then_some(Link {
+    (METHODS.contains(&method) && parity <= 1).then_some(Link {
         method,
         odd: parity == 1,
     })

@@ -4,12 +4,12 @@ use crate::frames;
 use crate::judge::{Form, Judge, Room, Settings};
 use crate::lines::{sealed, with_parity};
 use crate::peer::bits;
-use crate::peer::signs::{Link, DLE, ETX, SHAPES, SOH, STX, SYN};
+use crate::peer::signs::{Link, DLE, ETX, METHODS, SHAPES, SOH, STX, SYN};
 use crate::random::Random;
 use crate::small::settings;
 
 pub fn run(judge: &mut Judge, random: &mut Random) {
-    for method in 1..=4 {
+    for method in METHODS {
         for odd in [false, true] {
             let link = Link { method, odd };
             counts(judge, link);

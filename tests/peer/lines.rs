@@ -2,7 +2,7 @@
 
 use crate::peer::block::{self, Parts};
 use crate::peer::grammar::walk;
-use crate::peer::signs::{Link, Text, DLE, ENDS, RESERVED, SHAPES, SOH, STX, SYN};
+use crate::peer::signs::{Link, Text, DLE, ENDS, METHODS, RESERVED, SHAPES, SOH, STX, SYN};
 use crate::random::Random;
 
 /// Where fill signs are put into a line.
@@ -15,17 +15,19 @@ pub enum Fill {
 
 /// Every setting of a link. Methods 3 and 4 carry no parity, so one setting of
 /// it is enough.
-pub const LINKS: [(u8, bool); 6] = [
+pub const LINKS: [(u8, bool); 8] = [
     (1, false),
     (1, true),
     (2, false),
     (2, true),
     (3, false),
     (4, false),
+    (7, false),
+    (7, true),
 ];
 
 pub fn link(random: &mut Random) -> Link {
-    let method = 1 + random.below(4) as u8;
+    let method = random.of(&METHODS);
     Link {
         method,
         odd: random.once_in(2),
@@ -93,7 +95,7 @@ pub fn spoiled(random: &mut Random, mut parts: Parts) -> Parts {
     let choice = random.below(4);
     match choice {
         0 => parts.shape = random.of(&SHAPES),
-        1 => parts.link.method = 1 + random.below(4) as u8,
+        1 => parts.link.method = random.of(&METHODS),
         2 => put(random, &mut parts.header, byte),
         _ => put(random, &mut parts.text, byte),
     }

@@ -1,4 +1,5 @@
-//! The owner's third property: how two accepted lines of one framing differ.
+//! The owner's third property and document 02's card 5: how two accepted lines
+//! of one framing differ.
 
 /// Two checked bits so far apart pass a 16-bit check.
 pub const PERIOD: usize = 32_767;
@@ -13,6 +14,10 @@ pub fn may_differ(method: u8, numbers: &[usize]) -> bool {
     match method {
         1 => numbers.len() >= 2,
         2 => numbers.len() >= 4 && length > 9,
+        7 => match numbers {
+            [a, b, c, d] => a / 8 == b / 8 && c / 8 == d / 8 && (c / 8 - a / 8) % 7 == 0,
+            _ => numbers.len() >= 6,
+        },
         6 => numbers.len() >= 3 && length > 32,
         _ => {
             let pair = numbers.len() != 2 || last - first == PERIOD;

@@ -1,15 +1,16 @@
-//! The rows of document 01, "Lines to try", and the published check values.
+//! The rows of document 01, "Lines to try", lines of method 7, and the published
+//! check values.
 //! The results stand here as the paper prints them; the judge compares the
 //! whole answer with the peer's on top.
 
 use crate::corridor;
 use crate::judge::{differ, hex, Form, Judge, Room, Settings};
-use crate::peer::signs::{ETX, STX};
+use crate::peer::signs::{Link, ETX, METHODS, STX};
 
 /// A row of reading: method, parity, line; answer number, values, output.
 type Row<'a> = (&'a str, u8, u8, &'a [u8], u32, [usize; 5], &'a [u8]);
 
-const ROWS: [Row; 13] = [
+const ROWS: [Row; 16] = [
     (
         "1",
         2,
@@ -93,6 +94,33 @@ const ROWS: [Row; 13] = [
         [3, 0, 0, 0, 0],
         b"",
     ),
+    (
+        "card 5",
+        7,
+        0,
+        &[0x82, 0x41, 0x03, 0x42, 0x05],
+        0,
+        [2, 3, 0, 1, 2],
+        b"A",
+    ),
+    (
+        "card 5",
+        7,
+        0,
+        &[0x82, 0x41, 0x03, 0x42, 0x06],
+        54,
+        [0; 5],
+        b"",
+    ),
+    (
+        "card 5",
+        7,
+        0,
+        &[0x82, 0x41, 0x03, 0x41, 0x06],
+        18,
+        [0; 5],
+        b"",
+    ),
     ("17", 1, 0, &[], 13, [0; 5], b""),
     ("17", 4, 1, &[], 13, [0; 5], b""),
 ];
@@ -105,7 +133,7 @@ pub fn run(judge: &mut Judge) {
     frame(judge, "12", 5, &[0xFF, 0xFF], 54, &[0xFF; 4]);
     frame(judge, "13", 6, &[0xFF], 58, &[0xFF, 0x00, 0x00, 0x00, 0xFF]);
     numbers(judge);
-    for method in 1..=4 {
+    for method in METHODS {
         full_block(judge, method, 4_095, 0);
         full_block(judge, method, 4_096, 5);
     }
@@ -187,13 +215,9 @@ fn full_block(judge: &mut Judge, method: u8, text: usize, number: u32) {
         judge.read_block(settings, &line, Room::Needed(0))
     } else {
         let even = |byte: u8| byte | ((byte.count_ones() % 2) as u8) << 7;
-        let start = if method <= 2 { even(STX) } else { STX };
-        let long = [
-            &[start],
-            &text[..],
-            &[ETX],
-            &vec![b'A'; [0, 1, 2, 2][usize::from(method) - 1]],
-        ];
+        let link = Link { method, odd: false };
+        let start = if link.seven_bits() { even(STX) } else { STX };
+        let long = [&[start], &text[..], &[ETX], &vec![b'A'; link.check_bytes()]];
         judge.read_block(settings, &long.concat(), Room::Needed(0))
     };
     expect("16 read", number, if line.is_empty() { 17 } else { 0 });

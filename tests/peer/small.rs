@@ -7,7 +7,7 @@ use crate::lines::{sealed, with_parity};
 use crate::peer::bits;
 use crate::peer::block::Parts;
 use crate::peer::frame::FLAG;
-use crate::peer::signs::Link;
+use crate::peer::signs::{Link, METHODS};
 
 /// The seven signs, a character, and a byte with its top bit set.
 const ALPHABET: [u8; 9] = [0x01, 0x02, 0x03, 0x10, 0x16, 0x17, 0x1F, 0x41, 0x90];
@@ -34,7 +34,7 @@ pub fn run(judge: &mut Judge) {
 
 fn links() -> impl Iterator<Item = Link> {
     let odd = |method| [false, true].map(|odd| Link { method, odd });
-    (1..=4).flat_map(odd)
+    METHODS.into_iter().flat_map(odd)
 }
 
 pub fn settings(link: Link) -> Settings {

@@ -95,7 +95,7 @@ pub fn run() {
         specimens.len()
     );
     Counts::print_head();
-    for method in 1..=6 {
+    for method in 1..=7 {
         let mut counts = Counts::default();
         for specimen in specimens.iter().filter(|one| one.reader.method() == method) {
             counts.add(substitute(specimen));

@@ -11,8 +11,8 @@ pub enum Call {
 }
 
 const CALLS: [(Call, &str, &[usize]); 5] = [
-    (Call::ReadBlock, "read a block", &[1, 2, 3, 4]),
-    (Call::WriteBlock, "write a block", &[1, 2, 3, 4]),
+    (Call::ReadBlock, "read a block", &[1, 2, 3, 4, 7]),
+    (Call::WriteBlock, "write a block", &[1, 2, 3, 4, 7]),
     (Call::ReadFrame, "read a frame", &[5, 6]),
     (Call::WriteFrame, "write a frame", &[5, 6]),
     (Call::Receive, "judge a number", &[]),
@@ -21,7 +21,7 @@ const CALLS: [(Call, &str, &[usize]); 5] = [
 /// Every number that documents 01 and 02 give to a question of the call.
 fn questions(call: Call) -> &'static [usize] {
     match call {
-        Call::ReadBlock => &[11, 12, 13, 14, 15, 52, 53, 17, 18, 19],
+        Call::ReadBlock => &[11, 12, 13, 14, 15, 52, 53, 17, 18, 54, 19],
         Call::WriteBlock => &[1, 4, 2, 3, 5, 6],
         Call::ReadFrame => &[31, 32, 33, 34, 35, 36, 37, 38],
         Call::WriteFrame => &[21, 22, 23],
@@ -31,8 +31,8 @@ fn questions(call: Call) -> &'static [usize] {
 
 const NUMBERS: usize = 64;
 
-/// Methods 1 to 6, and 0 for every other code.
-const METHODS: usize = 7;
+/// Methods 1 to 7, and 0 for every other code.
+const METHODS: usize = 8;
 
 #[derive(Default)]
 pub struct Tally {

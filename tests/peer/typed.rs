@@ -11,6 +11,7 @@ fn link(settings: Settings) -> Option<(BlockMethod, Parity)> {
         2 => BlockMethod::Matrix,
         3 => BlockMethod::Cyclic,
         4 => BlockMethod::CyclicAlternative,
+        7 => BlockMethod::Diagonal,
         _ => return None,
     };
     let parity = match settings.parity {

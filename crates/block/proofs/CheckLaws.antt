@@ -1,15 +1,16 @@
--- The checks over bytes: registers of the cyclic methods, the matrix's check character, and how long a check is. Assumes nothing.
+-- The checks over bytes: registers of the cyclic methods, the check characters of matrix and diagonals, and how long a check is.
+-- Assumes nothing.
 use mathlib.Core.Path.{◌≡◌, refl, sym, ap, ap₂, ◌∙◌}
 use Prim.Native.Nat.{ℕ, ◌+◌, ◌/◌, ◌%◌, ◌^◌, ◌≤◌, ◌<◌}
 use native.Mathlib.Omega.{arith}
 use mathlib.Core.Bool.{Bool, true, false, xor, cond}
-use mathlib.Core.List.{List, [], ◌∷◌, ◌++◌}
+use mathlib.Core.List.{List, [], ◌∷◌, ◌++◌, map}
 use lib.Bits.{bit_xor}
 use lib.Dec.{lit<}
-use lib.ListN.{length, length-append}
+use lib.ListN.{length, length-append, length-map}
 use Rattle.bits.specs.Strings.{xor_bits, zeros, parity}
-use Rattle.bits.specs.Bytes.{low_bits, bits_of, bytes_for, pack}
-use Rattle.bits.proofs.Bytes.{length-low_bits, low_bits-append, low_bits-mod, low_bits-xor, low_bits-zero}
+use Rattle.bits.specs.Bytes.{low_bits, bits_of, bytes_for, value, pack}
+use Rattle.bits.proofs.Bytes.{length-low_bits, low_bits-append, low_bits-mod, low_bits-xor, low_bits-zero, low_bits-value}
 use Rattle.bits.proofs.Strings.{xor_bits_comm, xor_bits_assoc, xor_bits-zeros, length-xor}
 use Rattle.bits.proofs.Packing.{length-pack}
 use Rattle.cyclic.specs.Check.{Parameters, invert_if, check_bits, method3, method4}
@@ -23,7 +24,9 @@ use Rattle.block.specs.declared.Method.TheVariants as method
 use Rattle.block.specs.declared.Parity.{Parity}
 use Rattle.block.specs.declared.Parity.TheVariants.{Even}
 use Rattle.block.specs.Characters.{is_odd, with_parity}
-use Rattle.block.specs.Check.{column_sums, matrix_check, check_of, xor_all, check_length}
+use Rattle.block.specs.Diagonals.{diagonal_bits, turned}
+use Rattle.block.specs.Check.{row_sums, with_parity_bit, matrix_check, columns_of, diagonal_check, check_of, xor_all, check_length}
+use Rattle.block.proofs.DiagonalRegister.{Sevens, no_column, one_column, seven_bits, diagonal_register, length-diagonal_bits}
 
 -- ---- registers of the cyclic methods
 
@@ -36,19 +39,19 @@ register_check m o bs check {start} {register} began fits r k =
 
 -- ---- the matrix's check character
 
-pub sums-xor : (sum : ℕ) (bs : List ℕ) → low_bits 7 (xor_all sum bs) ≡ xor_bits (low_bits 7 sum) (column_sums bs)
-unfolding xor_all column_sums
+pub sums-xor : (sum : ℕ) (bs : List ℕ) → low_bits 7 (xor_all sum bs) ≡ xor_bits (low_bits 7 sum) (row_sums bs)
+unfolding xor_all row_sums
 sums-xor sum [] = sym (xor_bits_comm (low_bits 7 sum) (zeros 7) ∙ xor_bits-zeros 7 (low_bits 7 sum) (length-low_bits 7 sum))
 sums-xor sum (b ∷ bs) =
-    sums-xor (bit_xor sum b) bs ∙ ap (λ z. xor_bits z (column_sums bs)) (low_bits-xor 7 sum b) ∙ xor_bits_assoc (low_bits 7 sum) (low_bits 7 b) (column_sums bs)
+    sums-xor (bit_xor sum b) bs ∙ ap (λ z. xor_bits z (row_sums bs)) (low_bits-xor 7 sum b) ∙ xor_bits_assoc (low_bits 7 sum) (low_bits 7 b) (row_sums bs)
 
-pub length-sums : (bs : List ℕ) → length (column_sums bs) ≡ 7
-unfolding column_sums
+pub length-sums : (bs : List ℕ) → length (row_sums bs) ≡ 7
+unfolding row_sums
 length-sums [] = refl
-length-sums (b ∷ bs) = length-xor (low_bits 7 b) (column_sums bs) (length-low_bits 7 b ∙ sym (length-sums bs)) ∙ length-sums bs
+length-sums (b ∷ bs) = length-xor (low_bits 7 b) (row_sums bs) (length-low_bits 7 b ∙ sym (length-sums bs)) ∙ length-sums bs
 
-pub sums_are : (bs : List ℕ) → column_sums bs ≡ low_bits 7 (xor_all 0 bs)
-sums_are bs = sym (sums-xor 0 bs ∙ ap (λ z. xor_bits z (column_sums bs)) (low_bits-zero 7) ∙ xor_bits-zeros 7 (column_sums bs) (length-sums bs))
+pub sums_are : (bs : List ℕ) → row_sums bs ≡ low_bits 7 (xor_all 0 bs)
+sums_are bs = sym (sums-xor 0 bs ∙ ap (λ z. xor_bits z (row_sums bs)) (low_bits-zero 7) ∙ xor_bits-zeros 7 (row_sums bs) (length-sums bs))
 
 -- a character with its parity bit: its seven bits, and the bit
 pub with_parity-mod : (p : Parity) (x : ℕ) → with_parity p x % 128 ≡ x % 128
@@ -83,11 +86,38 @@ unfolding matrix_check
 matrix_character p bs =
     ap (λ s. s ++ xor (is_odd p) (parity s) ∷ []) (sums_are bs) ∙ sym (with_parity-bits p (xor_all 0 bs))
 
+-- seven bits with their parity bit, as a byte
+pub parity_bit-character : (p : Parity) (bits : List Bool) → length bits ≡ 7 → with_parity_bit p bits ≡ low_bits 8 (with_parity p (value bits))
+parity_bit-character p bits l =
+    ap (with_parity_bit p) (sym (ap (λ n. low_bits n (value bits)) (sym l) ∙ low_bits-value bits)) ∙ sym (with_parity-bits p (value bits))
+
+-- ---- the diagonal character
+
+columns_seven : (bs : List ℕ) {cs : List (List Bool)} → Sevens cs → Sevens (map (low_bits 7) bs ++ cs)
+columns_seven [] h = h
+columns_seven (b ∷ bs) h = one_column (seven_bits (low_bits 7 b) (length-low_bits 7 b)) (columns_seven bs h)
+
+-- of the counted bytes, by the register
+pub diagonal-turned : (bs : List ℕ) → diagonal_bits (length bs) (columns_of bs) ≡ turned (zeros 7) (columns_of bs)
+diagonal-turned bs =
+    diagonal_register (length bs) (columns_seven bs (one_column (seven_bits (row_sums bs) (length-sums bs)) no_column))
+    (length-append (map (low_bits 7) bs) (row_sums bs ∷ []) ∙ ap (λ n. n + 1) (length-map bs (low_bits 7)))
+
 -- ---- lengths
 
-length_matrix : (p : Parity) (bs : List ℕ) → length (matrix_check p bs) ≡ 8
+length-parity_bit : (p : Parity) (bits : List Bool) → length bits ≡ 7 → length (with_parity_bit p bits) ≡ 8
+length-parity_bit p bits l = length-append bits (xor (is_odd p) (parity bits) ∷ []) ∙ ap (λ n. n + 1) l
+
+pub length_matrix : (p : Parity) (bs : List ℕ) → length (matrix_check p bs) ≡ 8
 unfolding matrix_check
-length_matrix p bs = length-append (column_sums bs) (xor (is_odd p) (parity (column_sums bs)) ∷ []) ∙ ap (λ n. n + 1) (length-sums bs)
+length_matrix p bs = length-parity_bit p (row_sums bs) (length-sums bs)
+
+length_diagonal : (p : Parity) (bs : List ℕ) → length (diagonal_check p bs) ≡ 8
+unfolding diagonal_check
+length_diagonal p bs = length-parity_bit p (diagonal_bits (length bs) (columns_of bs)) (length-diagonal_bits (length bs) (columns_of bs))
+
+pub length_characters : (p : Parity) (bs : List ℕ) → length (matrix_check p bs ++ diagonal_check p bs) ≡ 16
+length_characters p bs = length-append (matrix_check p bs) (diagonal_check p bs) ∙ ap₂ ◌+◌ (length_matrix p bs) (length_diagonal p bs)
 
 length_cyclic : (m : Parameters) → OfWidth 16 m → (c : _) → length (check_bits m c) ≡ 16
 length_cyclic m o c = length-check m (o.start-length ∙ sym o.generator.width) c ∙ o.generator.width
@@ -103,6 +133,7 @@ check_bytes method.Parity = 0
 check_bytes method.Matrix = 1
 check_bytes method.Cyclic = 2
 check_bytes method.CyclicAlternative = 2
+check_bytes method.Diagonal = 2
 
 length_packed : (m : Method) (p : Parity) (bs : List ℕ) → length (pack (check_of m p bs)) ≡ check_bytes m
 unfolding check_of
@@ -110,6 +141,7 @@ length_packed method.Parity p bs = packed [] 0 refl
 length_packed method.Matrix p bs = packed (matrix_check p bs) 8 (length_matrix p bs)
 length_packed method.Cyclic p bs = length_cyclic_check method3 width_3 bs
 length_packed method.CyclicAlternative p bs = length_cyclic_check method4 width_4 bs
+length_packed method.Diagonal p bs = packed (matrix_check p bs ++ diagonal_check p bs) 16 (length_characters p bs)
 
 pub check_length_lem : (m : Method) → check_length m ≡ check_bytes m
 unfolding check_length
@@ -126,3 +158,4 @@ check_short m = go m (check_length_lem m)
     go method.Matrix e = omega arith
     go method.Cyclic e = omega arith
     go method.CyclicAlternative e = omega arith
+    go method.Diagonal e = omega arith

@@ -1,5 +1,8 @@
 pub mod Characters
+pub mod DiagonalRegister
+pub mod Figures
 pub mod CheckLaws
+pub mod Asked
 pub mod Lists
 pub mod NoSign
 pub mod OneToOne

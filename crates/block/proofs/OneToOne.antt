@@ -54,7 +54,8 @@ read_refusal_from n v =
     (cond (eqb n 52) (reading.CheckShort (record { 0 = v }))
     (cond (eqb n 53) (reading.CheckLong (record { 0 = v }))
     (cond (eqb n 17) reading.TooManyCounted
-    (cond (eqb n 18) reading.WrongCheck (reading.OutputShort v)))))))))
+    (cond (eqb n 18) reading.WrongCheck
+    (cond (eqb n 54) reading.WrongDiagonal (reading.OutputShort v))))))))))
 
 read_refusal_back : (r : ReadRefusal) → read_refusal_from (read_number r) (read_value r) ≡ r
 unfolding read_refusal_from
@@ -67,6 +68,7 @@ read_refusal_back (reading.CheckShort at) = refl
 read_refusal_back (reading.CheckLong at) = refl
 read_refusal_back reading.TooManyCounted = refl
 read_refusal_back reading.WrongCheck = refl
+read_refusal_back reading.WrongDiagonal = refl
 read_refusal_back (reading.OutputShort needed) = refl
 
 read_from : Numbers → Result Block ReadRefusal

@@ -23,3 +23,4 @@ empty_line method.Parity p = refl
 empty_line method.Matrix p = refl
 empty_line method.Cyclic p = refl
 empty_line method.CyclicAlternative p = refl
+empty_line method.Diagonal p = refl

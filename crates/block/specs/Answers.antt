@@ -39,6 +39,7 @@ read_number (reading.CheckShort at) = 52
 read_number (reading.CheckLong at) = 53
 read_number reading.TooManyCounted = 17
 read_number reading.WrongCheck = 18
+read_number reading.WrongDiagonal = 54
 read_number (reading.OutputShort needed) = 19
 
 abbrev pub read_value : ReadRefusal → ℕ
@@ -51,6 +52,7 @@ read_value (reading.CheckShort at) = at.0
 read_value (reading.CheckLong at) = at.0
 read_value reading.TooManyCounted = 0
 read_value reading.WrongCheck = 0
+read_value reading.WrongDiagonal = 0
 read_value (reading.OutputShort needed) = needed
 
 abbrev pub of_read : Result Block ReadRefusal → Numbers

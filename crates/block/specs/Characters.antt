@@ -8,12 +8,13 @@ use Rattle.block.specs.declared.Method.TheVariants as method
 use Rattle.block.specs.declared.Parity.{Parity}
 use Rattle.block.specs.declared.Parity.TheVariants.{Even, Odd}
 
--- methods 1 and 2 carry seven-bit characters, 3 and 4 eight-bit bytes
+-- methods 1, 2 and 7 carry seven-bit characters, 3 and 4 eight-bit bytes
 abbrev pub is_seven : Method → Bool
 is_seven method.Parity = true
 is_seven method.Matrix = true
 is_seven method.Cyclic = false
 is_seven method.CyclicAlternative = false
+is_seven method.Diagonal = true
 
 -- the character of a byte on the line
 unfoldable pub character : Bool → ℕ → ℕ

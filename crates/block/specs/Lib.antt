@@ -2,6 +2,7 @@ pub mod Signs
 pub mod Characters
 pub mod Walk
 pub mod Marks
+pub mod Diagonals
 pub mod Check
 pub mod Limits
 pub mod Read

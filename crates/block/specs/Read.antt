@@ -1,8 +1,10 @@
--- Reading a block: questions 11 to 15, 52, 53 and 17 to 19 in turn (document 01, "Questions before a line is taken"; document 02, card 3). Assumes nothing.
-use Rattle.std.specs.Prelude.{ℕ, ◌+◌, Bool, cond, List, [], ◌∷◌, ◌++◌, leb, length, drop}
+-- Reading a block: questions 11 to 15, 52, 53, 17, 18, 54 and 19 in turn (document 01, "Questions before a line is taken"; document 02,
+-- cards 3 and 5). Assumes nothing.
+use Rattle.std.specs.Prelude.{ℕ, ◌+◌, Bool, true, false, cond, List, [], ◌∷◌, ◌++◌, leb, length, take, drop}
 use Rattle.bits.specs.Strings.{same}
 use Rattle.bits.specs.Bytes.{bits_of}
 use Rattle.block.specs.declared.Method.{Method}
+use Rattle.block.specs.declared.Method.TheVariants as method
 use Rattle.block.specs.declared.Parity.{Parity}
 use Rattle.block.specs.declared.Shape.{Shape}
 use Rattle.block.specs.declared.EndSign.{EndSign}
@@ -85,13 +87,37 @@ parts_of m line ks f e =
 abbrev pub output_length : Parts → ℕ
 output_length b = length b.header + length b.text
 
--- 18 and 19, of an output of `room` bytes
+-- method 7 has two check characters: the row check is asked by 18, the diagonal character by 54
+abbrev pub is_diagonal : Method → Bool
+is_diagonal method.Parity = false
+is_diagonal method.Matrix = false
+is_diagonal method.Cyclic = false
+is_diagonal method.CyclicAlternative = false
+is_diagonal method.Diagonal = true
+
+-- 18 asks for the check, or the first character of two
+abbrev pub first_asked : Method → List Bool → List Bool
+first_asked m check = cond (is_diagonal m) (take 8 check) check
+
+-- 54 asks for the second
+abbrev pub then_asked : Method → List Bool → List Bool
+then_asked m check = cond (is_diagonal m) (drop 8 check) []
+
+-- 18 and 54, of the check received and the one computed
+abbrev pub ask_same : Method → List Bool → List Bool → ReadAnswer → ReadAnswer
+ask_same m received computed next =
+    cond (same (first_asked m received) (first_asked m computed))
+    (cond (same (then_asked m received) (then_asked m computed)) next (refusal 54 0))
+    (refusal 18 0)
+
+-- 19, of an output of `room` bytes
+abbrev pub ask_room : Parts → ℕ → ReadAnswer
+ask_room b room = cond (leb (output_length b) room) (taken b) (refusal 19 (output_length b))
+
 abbrev pub ask_check : Method → Parity → List ℕ → ℕ → Framed → ReadAnswer
 ask_check m p line room (unframed number value) = refusal number value
 ask_check m p line room (found ks f e) =
-    cond (same (bits_of (check_bytes ks line)) (check_of m p (counted ks line)))
-    (cond (leb (output_length (parts_of m line ks f e)) room) (taken (parts_of m line ks f e)) (refusal 19 (output_length (parts_of m line ks f e))))
-    (refusal 18 0)
+    ask_same m (bits_of (check_bytes ks line)) (check_of m p (counted ks line)) (ask_room (parts_of m line ks f e) room)
 
 unfoldable pub read_block : Method → Parity → List ℕ → ℕ → ReadAnswer
 read_block m p line room = ask_check m p line room (framed m p line)

@@ -34,7 +34,7 @@ in_start_dle us = NoStart
 in_start_dle other = NoStart
 
 -- in a header SOH is out of place, and DLE unless STX follows; an inner start is counted; SYN is left out.
--- Under methods 1 and 2 DLE is out of place everywhere
+-- Under methods 1, 2 and 7 DLE is out of place everywhere
 abbrev pub in_header : Bool → Sign → Judged
 in_header seven soh = OutOfPlace
 in_header seven stx = Is InnerStart Text
@@ -131,7 +131,7 @@ onward go f at NoStart = halt (refused 13 0)
 onward go f at OutOfPlace = halt (refused 14 at)
 onward go f at DleOutOfPlace = halt (refused 14 (at - 1))
 
--- the walk over what is left of a line, from the place `at` on, in field f; `seven`: methods 1 and 2
+-- the walk over what is left of a line, from the place `at` on, in field f; `seven`: methods 1, 2 and 7
 abbrev pub walk : Bool → List ℕ → ℕ → Field → Walked
 walk seven [] at f = halt (cut f)
 walk seven (b ∷ rest) at f = onward (walk seven rest (at + 1)) f at (judge seven f (sign_of (character seven b)))

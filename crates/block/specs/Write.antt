@@ -52,7 +52,7 @@ inner_signs s = cond (has_header s) (text_start s) []
 
 -- ---- questions
 
--- a character that is no sign; in methods 1 and 2 it is below 80
+-- a character that is no sign; in methods 1, 2 and 7 it is below 80
 abbrev pub is_other : Sign → Bool
 is_other soh = false
 is_other stx = false

@@ -15,6 +15,7 @@ pub fn check_length(m: Method) -> usize
         Method::Matrix => 1,
         Method::Cyclic => Cyclic3::WIDTH / 8,
         Method::CyclicAlternative => Cyclic4::WIDTH / 8,
+        Method::Diagonal => 2,
     }
 }
 

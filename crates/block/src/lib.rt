@@ -1,19 +1,20 @@
-// Blocks of methods 1 to 4 (003 par. 1.2, 1.3 and 2.1; document 01, parts 1 and 3): the types of the block calls, and in specs/
+// Blocks of methods 1 to 4 and 7 (003 par. 1.2, 1.3 and 2.1, 000; document 01, parts 1 and 3; document 02, card 5): the types of the block calls, and in specs/
 // the rules of reading and writing, by which `read_block` (crate block_reader) and `write_block` (crate block_writer) answer. The
 // functions here are what more than one of the crates above uses; each takes every input, and its contract gives the result by
 // the rules.
 #![tactic(auto)]
 
-// Methods 1 to 4.
+// Methods 1 to 4, and 7, the matrix with the diagonal character.
 #[derive(Clone, Copy)]
 pub enum Method {
     Parity,
     Matrix,
     Cyclic,
     CyclicAlternative,
+    Diagonal,
 }
 
-// The link's parity: of the ones of a byte, in methods 1 and 2.
+// The link's parity: of the ones of a byte, in methods 1, 2 and 7.
 #[derive(Clone, Copy)]
 pub enum Parity {
     Even,
@@ -85,8 +86,10 @@ pub enum ReadRefusal {
     CheckLong(BytePlace),
     // 17: more than 4,096
     TooManyCounted,
-    // 18
+    // 18: of method 7 the row check
     WrongCheck,
+    // 54: the diagonal character of method 7
+    WrongDiagonal,
     // 19: the bytes needed
     OutputShort(usize),
 }
@@ -95,7 +98,7 @@ pub enum ReadRefusal {
 pub enum WriteRefusal {
     // 1: the method does not carry the shape
     NotCarried,
-    // 2: a reserved byte, or one from 80 on in methods 1 and 2
+    // 2: a reserved byte, or one from 80 on in methods 1, 2 and 7
     HeaderByte(BytePlace),
     // 3: the same in plain text
     TextByte(BytePlace),

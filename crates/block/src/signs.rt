@@ -42,9 +42,9 @@ pub fn character(seven: bool, b: u8) -> u8
     if seven { b % 128 } else { b }
 }
 
-// Methods 1 and 2 carry seven-bit characters.
+// Methods 1, 2 and 7 carry seven-bit characters.
 pub fn is_seven(m: Method) -> bool
     ensures { result ≡ rule.is_seven m }
 {
-    matches!(m, Method::Parity | Method::Matrix)
+    matches!(m, Method::Parity | Method::Matrix | Method::Diagonal)
 }

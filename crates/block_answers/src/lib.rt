@@ -23,6 +23,7 @@ fn read_refusal(refusal: ReadRefusal) -> ValueNumbers
         ReadRefusal::CheckLong(at) => numbers(53, at.0),
         ReadRefusal::TooManyCounted => numbers(17, 0),
         ReadRefusal::WrongCheck => numbers(18, 0),
+        ReadRefusal::WrongDiagonal => numbers(54, 0),
         ReadRefusal::OutputShort(needed) => numbers(19, needed),
     }
 }

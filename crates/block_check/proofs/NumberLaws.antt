@@ -9,9 +9,9 @@ use lib.Bits.{bit_xor, xor_lt, xor_zero_r}
 use lib.ListN.{length, length-map}
 use lib.Pow.{pow_mono}
 use Rattle.bits.specs.Strings.{xor_bits, parity}
-use Rattle.bits.specs.Bytes.{low_bits, bits_of, bytes_for, value}
+use Rattle.bits.specs.Bytes.{low_bits, bits_of, bytes_for, value, Bytes}
 use Rattle.bits.proofs.Strings.{xor_bits_assoc}
-use Rattle.bits.proofs.Bytes.{low_bits_injective, low_bits-mod, low_bits-xor, low_bits-value, length-low_bits, value_lt, value-low_bits}
+use Rattle.bits.proofs.Bytes.{low_bits_injective, low_bits-mod, low_bits-xor, low_bits-value, length-low_bits, length-bits_of, value_lt, value-low_bits}
 use Rattle.division.specs.Generators.{ccitt16, ibm16}
 use Rattle.cyclic.specs.Check.{Parameters, Constants, invert_if, check_bits, method3, method4}
 use Rattle.cyclic.specs.Laws.{OfWidth}
@@ -24,7 +24,10 @@ use Rattle.block.specs.declared.Parity.{Parity}
 use Rattle.block.specs.Characters.{with_parity, is_odd}
 use Rattle.block.specs.Check.{check_of, xor_all}
 use Rattle.block.proofs.Sums.{xor_all-append}
-use Rattle.block.proofs.CheckLaws.{register_check, matrix_character}
+use Rattle.block.proofs.CheckLaws.{register_check, matrix_character, with_parity_lt}
+use Rattle.block_diagonals.specs.Sums.{characters}
+use Rattle.block_diagonals.proofs.Turning.{sums_after-append}
+use Rattle.block_diagonals.proofs.TwoCharacters.{characters-check}
 use Rattle.block_check.specs.Numbers.{start_of, number_after, check_from}
 
 -- ---- sums
@@ -64,6 +67,7 @@ number_append method.Parity n xs ys = refl
 number_append method.Matrix n xs ys = xor_all-append n xs ys
 number_append method.Cyclic n xs ys = after-append ccitt16 n xs ys
 number_append method.CyclicAlternative n xs ys = after-append ibm16 n xs ys
+number_append method.Diagonal n xs ys = sums_after-append n xs ys
 
 -- ---- the start of methods 3 and 4
 
@@ -90,6 +94,7 @@ check-after method.Parity p bs = refl
 check-after method.Matrix p bs = sym (matrix_character p bs)
 check-after method.Cyclic p bs = from_start method3 width_3 bs
 check-after method.CyclicAlternative p bs = from_start method4 width_4 bs
+check-after method.Diagonal p bs = characters-check p bs
 
 -- a new register's number is that of the method's start
 pub start-number : {m : Parameters} {register polynomial start limit : ℕ} → Constants m register 16 polynomial start limit → register < 2 ^ 16
@@ -107,6 +112,9 @@ whole_bytes method.Cyclic p n =
 whole_bytes method.CyclicAlternative p n =
     let l : length (check_from method.CyclicAlternative p n) ≡ 16 = length-invert_if false (low_bits 16 n) ∙ length-low_bits 16 n in
     rw l
+whole_bytes method.Diagonal p n =
+    let l : length (check_from method.Diagonal p n) ≡ 16 = length-bits_of (characters p n) in
+    rw l
 
 -- the character of a sum goes by its low bits
 pub with_parity-low : (p : Parity) (n : ℕ) → with_parity p (n % 256) ≡ with_parity p n
@@ -114,3 +122,7 @@ unfolding with_parity
 with_parity-low p n =
     let e : n % 256 % 128 ≡ n % 128 = omega arith in
     ap₂ (λ x y. x + cond (xor (is_odd p) (parity y)) 128 0) e (sym (low_bits-mod 7 (n % 256)) ∙ ap (low_bits 7) e ∙ low_bits-mod 7 n)
+
+-- the characters of method 7 are bytes
+pub characters_fit : (p : Parity) (n : ℕ) → Bytes (characters p n)
+characters_fit p n = (with_parity_lt p _, (with_parity_lt p _, tt))

@@ -1,4 +1,4 @@
-// The number that a check adds up over bytes. The methods are a closed list, and each match shows its four cases side by side, as the
+// The number that a check adds up over bytes. The methods are a closed list, and each match shows its five cases side by side, as the
 // papers do; a trait with a type for each method would spread them.
 ghost use Rattle.std.specs.Prelude.{◌≡◌, false, [], ◌∷◌};
 ghost use Rattle.block.specs.Characters.{is_seven};
@@ -7,6 +7,7 @@ ghost use Rattle.block_segments.specs.Segment.{kept_in};
 ghost use Rattle.block_check.specs.Numbers.{start_of, number_after};
 
 use block::{Method, sum_slice};
+use block_diagonals::{add_both, add_both_kept};
 use block_register::enter_kept;
 use block_segments::{Segment, sum_kept};
 use ccitt16::Ccitt16;
@@ -31,6 +32,7 @@ pub fn start_of(m: Method) -> u16
             let cyclic = Cyclic4::new();
             cyclic.register
         }
+        Method::Diagonal => 0,
     }
 }
 
@@ -43,6 +45,7 @@ pub fn add_one(m: Method, number: u16, b: u8) -> u16
         Method::Matrix => number ^ (b as u16),
         Method::Cyclic => enter_one::<Ccitt16>(number, b),
         Method::CyclicAlternative => enter_one::<Ibm16>(number, b),
+        Method::Diagonal => add_both(number, &[b]),
     }
 }
 
@@ -55,6 +58,7 @@ pub fn add_run(m: Method, number: u16, run: &[u8]) -> u16
         Method::Matrix => number ^ (sum_slice(0, run) as u16),
         Method::Cyclic => enter_run::<Ccitt16>(number, run),
         Method::CyclicAlternative => enter_run::<Ibm16>(number, run),
+        Method::Diagonal => add_both(number, run),
     }
 }
 
@@ -67,6 +71,7 @@ fn add_kept(m: Method, number: u16, clear: bool, part: &[u8]) -> u16
         Method::Matrix => number ^ (sum_kept(0, clear, part) as u16),
         Method::Cyclic => enter_kept::<Ccitt16>(number, clear, part),
         Method::CyclicAlternative => enter_kept::<Ibm16>(number, clear, part),
+        Method::Diagonal => add_both_kept(number, clear, part),
     }
 }
 

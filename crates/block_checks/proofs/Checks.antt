@@ -1,15 +1,17 @@
 -- The checks of a written line: the parts added up one after the other give the check of the counted bytes. Assumes nothing.
 use Rattle.std.proofs.Common.{◌≡◌, ℕ, true, false, List, [], ◌∷◌, ◌++◌, map, refl, sym, ap, ap₂, ◌∙◌}
-use mathlib.Core.Bool.{xor}
-use Rattle.bits.specs.Strings.{xor_bits, parity}
+use lib.ListN.{length-map}
+use Rattle.bits.specs.Strings.{xor_bits}
+use Rattle.bits.specs.Bytes.{low_bits}
 use Rattle.block.specs.declared.Method.{Method}
 use Rattle.block.specs.declared.Method.TheVariants as method
 use Rattle.block.specs.declared.Parity.{Parity}
 use Rattle.block.specs.declared.Shape.{Shape}
 use Rattle.block.specs.declared.EndSign.{EndSign}
 use Rattle.block.specs.Signs.{end_byte}
-use Rattle.block.specs.Characters.{is_odd, sent}
-use Rattle.block.specs.Check.{column_sums, matrix_check, check_of}
+use Rattle.block.specs.Characters.{sent}
+use Rattle.block.specs.Diagonals.{diagonal_bits}
+use Rattle.block.specs.Check.{row_sums, with_parity_bit, matrix_check, diagonal_check, check_of}
 use Rattle.block.specs.Write.{inner_signs, counted_bytes}
 use Rattle.block.proofs.CheckLaws.{with_parity-low}
 use Rattle.block_checks.specs.Checked.{checked_bytes}
@@ -36,21 +38,37 @@ parts_of_lem fold fold-append s e head body start ea eb ec er =
 
 -- ---- the check does not see the parity bits that are sent
 
-columns_sent : (p : Parity) (bs : List ℕ) → column_sums (map (sent true p) bs) ≡ column_sums bs
-unfolding column_sums sent
+rows_sent : (p : Parity) (bs : List ℕ) → row_sums (map (sent true p) bs) ≡ row_sums bs
+unfolding row_sums sent
+rows_sent p [] = refl
+rows_sent p (b ∷ bs) = ap₂ xor_bits (with_parity-low p b) (rows_sent p bs)
+
+columns_sent : (p : Parity) (bs : List ℕ) → map (low_bits 7) (map (sent true p) bs) ≡ map (low_bits 7) bs
+unfolding sent
 columns_sent p [] = refl
-columns_sent p (b ∷ bs) = ap₂ xor_bits (with_parity-low p b) (columns_sent p bs)
+columns_sent p (b ∷ bs) = ap₂ (λ c cs. c ∷ cs) (with_parity-low p b) (columns_sent p bs)
+
+matrix_sent : (p : Parity) (bs : List ℕ) → matrix_check p (map (sent true p) bs) ≡ matrix_check p bs
+unfolding matrix_check
+matrix_sent p bs = ap (with_parity_bit p) (rows_sent p bs)
+
+diagonal_sent : (p : Parity) (bs : List ℕ) → diagonal_check p (map (sent true p) bs) ≡ diagonal_check p bs
+unfolding diagonal_check
+diagonal_sent p bs =
+    ap₂ (λ n cs. with_parity_bit p (diagonal_bits n cs)) (length-map bs (sent true p))
+    (ap₂ (λ cs r. cs ++ r ∷ []) (columns_sent p bs) (rows_sent p bs))
 
 pub check_sent : (m : Method) (p : Parity) (s : Shape) (e : EndSign) (head body : List ℕ)
     → check_of m p (checked_bytes s e head body) ≡ check_of m p (counted_bytes m p s e head body)
-unfolding check_of counted_bytes checked_bytes matrix_check
+unfolding check_of counted_bytes checked_bytes
 check_sent method.Parity p s e head body = refl
-check_sent method.Matrix p s e head body =
-    let bs = head ++ (inner_signs s ++ (body ++ end_byte e ∷ [])) in
-    ap (λ l. l ++ xor (is_odd p) (parity l) ∷ []) (sym (columns_sent p bs))
+check_sent method.Matrix p s e head body = sym (matrix_sent p (head ++ (inner_signs s ++ (body ++ end_byte e ∷ []))))
 check_sent method.Cyclic p s e head body =
     let bs = head ++ (inner_signs s ++ (body ++ end_byte e ∷ [])) in
     ap (check_of method.Cyclic p) (sym (sent-eight p bs))
 check_sent method.CyclicAlternative p s e head body =
     let bs = head ++ (inner_signs s ++ (body ++ end_byte e ∷ [])) in
     ap (check_of method.CyclicAlternative p) (sym (sent-eight p bs))
+check_sent method.Diagonal p s e head body =
+    let bs = head ++ (inner_signs s ++ (body ++ end_byte e ∷ [])) in
+    ap₂ ◌++◌ (sym (matrix_sent p bs)) (sym (diagonal_sent p bs))

@@ -8,7 +8,7 @@ ghost use Rattle.block.specs.Walk as rule;
 
 use block::{DLE, ETB, ETX, EndSign, Field, Judged, Mark, SOH, STX, SYN, US};
 
-// Methods 1 and 2 carry no clear text, so their DLE starts nothing.
+// Methods 1, 2 and 7 carry no clear text, so their DLE starts nothing.
 fn dle_in_start(seven: bool) -> Judged
     ensures { result ≡ rule.in_start seven dle }
 {

@@ -48,7 +48,7 @@ fn count_fits(shape: Shape, header: usize, text: usize) -> bool
     header + inner_signs(shape).len() + text + 1 <= COUNTED_LIMIT
 }
 
-// The questions of parts in methods 1 and 2 (`seven`) or in 3 and 4.
+// The questions of parts in methods 1, 2 and 7 (`seven`) or in 3 and 4.
 pub fn ask_parts(seven: bool, parts: &Parts<'_>) -> Result<(), WriteRefusal>
     ensures { (next : rule.WriteAnswer) → after_asked result next ≡ ask_parts seven parts.now.shape parts.now.header.now parts.now.text.now next }
 {

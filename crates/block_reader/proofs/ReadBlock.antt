@@ -1,4 +1,4 @@
--- Reading as a whole: a framing that was found, then 18 and 19, and the output. Assumes nothing.
+-- Reading as a whole: a framing that was found, then 18, 54 and 19, and the output. Assumes nothing.
 use mathlib.Core.Path.{◌≡◌, refl, sym, ap, ap₂, subst, ◌∙◌}
 use Prim.Native.Nat.{ℕ, ◌+◌, ◌≤◌, ◌<◌}
 use native.Mathlib.Nat.{zero-add}
@@ -9,7 +9,6 @@ use lib.Dec.{leb}
 use lib.ListN.{length, drop, length-append, length-map}
 use lib.Seq.{sets, sets-eq}
 use borrow.Author.Tests.{le-leb, lt-leb}
-use Rattle.bits.specs.Strings.{same}
 use Rattle.bits.specs.Bytes.{bits_of}
 use Rattle.bits.specs.Differences.{cons_if}
 use Rattle.block.specs.declared.Method.{Method}
@@ -22,7 +21,7 @@ use Rattle.block.specs.Signs.{end_byte}
 use Rattle.block.specs.Characters.{is_seven, character}
 use Rattle.block.specs.Marks.{is_header, is_text, sift, has_inner, shape_of}
 use Rattle.block.specs.Check.{check_of}
-use Rattle.block.specs.Read.{Framed, found, unframed, ask_check, Parts, ReadAnswer, taken, parts_of, output_length, read_block, read_output}
+use Rattle.block.specs.Read.{Framed, found, unframed, ask_same, ask_room, ask_check, Parts, ReadAnswer, taken, parts_of, output_length, read_block, read_output}
 use Rattle.block.specs.Read as rule
 use Rattle.bits.specs.Calls.{called}
 use Rattle.block.specs.Answers.{Numbers, block, refused, shape_number, read_number, read_value, of_read_answer, after_reading, read_call}
@@ -34,6 +33,7 @@ use Rattle.std.specs.Prelude.{Result, Ok, Err}
 use Rattle.block_framing.specs.Framings.{no_tally, tallied, start_of, framing_at, WalkAnswer, framed, refusal, of_walk, framed_answer, header_in, text_in, counted_in, Ordered, Segmented}
 use Rattle.block_framing.proofs.FramingLaws.{segmented, Tallied, tally_counts, framing_shape}
 use Rattle.block_framing.proofs.Reading.{Carries, framing_carries}
+use Rattle.block_check.specs.Asked.{after_asked}
 use Rattle.block_reader.specs.Counts.{CountsKept, held_by}
 
 length-sift : (is : Mark → Bool) (ks : List Mark) (line : List ℕ) → length (sift is ks line) ≤ length line
@@ -138,39 +138,39 @@ module _ (m : Method) (p : Parity) (line : List ℕ) (r : Segments) (q : framed 
       let n : length vs ≡ output_length parts = length-append (map g (sift is_header ks line)) (map g (sift is_text ks line)) in
       s ∙ ap (sets out 0) both ∙ sets-eq vs out 0 (omega (arith, n, needed)) ∙ ap (λ k. vs ++ drop k out) (zero-add (length vs) ∙ n)
 
-  -- ---- 18 and 19
+  -- ---- 18, 54 and 19
 
-  module _ (out : List ℕ) {right : Bool} (c : right ≡ same (bits_of (drop r.after line)) (check_of m p (counted_in (is_seven m) r line))) where
-    after_check : Bool → ReadAnswer
-    after_check t = cond t (cond (leb (output_length parts) (length out)) (taken parts) (rule.refusal 19 (output_length parts))) (rule.refusal 18 0)
-
-    answered : read_block m p line (length out) ≡ after_check right
-    unfolding read_block after_check
+  module _ (out : List ℕ) (c : Result Unit ReadRefusal)
+      (asked : (next : ReadAnswer) → after_asked c next ≡ ask_same m (bits_of (drop r.after line)) (check_of m p (counted_in (is_seven m) r line)) next) where
+    answered : after_asked c (ask_room parts (length out)) ≡ read_block m p line (length out)
+    unfolding read_block
     answered =
-        ap (ask_check m p line (length out)) x.rules
-        ∙ ap after_check (sym (c ∙ ap₂ (λ n bs. same (bits_of (drop n line)) (check_of m p bs)) carried.behind (sym finds.counts)))
+        asked (ask_room parts (length out))
+        ∙ ap₂ (λ n bs. ask_same m (bits_of (drop n line)) (check_of m p bs) (ask_room parts (length out))) carried.behind (sym finds.counts)
+        ∙ sym (ap (ask_check m p line (length out)) x.rules)
 
-    pub wrong_check : right ≡ false → called (refused 18 0) out ≡ read_call m p line out
-    unfolding after_check
-    wrong_check e = is_refused out (answered ∙ ap after_check e)
+    pub wrong_check : {w : ReadRefusal} → c ≡ Err w → called (refused (read_number w) (read_value w)) out ≡ read_call m p line out
+    wrong_check {w} e =
+        is_refused out (sym answered ∙ ap (λ (z : Result Unit ReadRefusal). after_asked z (ask_room parts (length out))) e)
 
-    module _ (e : right ≡ true) where
-      right-check : read_block m p line (length out) ≡ cond (leb (output_length parts) (length out)) (taken parts) (rule.refusal 19 (output_length parts))
-      unfolding after_check
-      right-check = answered ∙ ap after_check e
+    module _ (e : c ≡ Ok tt) where
+      right_check : read_block m p line (length out) ≡ ask_room parts (length out)
+      right_check = sym answered ∙ ap (λ (z : Result Unit ReadRefusal). after_asked z (ask_room parts (length out))) e
+
+      by_room : {t : Bool} → leb (output_length parts) (length out) ≡ t
+          → read_block m p line (length out) ≡ cond t (taken parts) (rule.refusal 19 (output_length parts))
+      by_room q = right_check ∙ ap (λ t. cond t (taken parts) (rule.refusal 19 (output_length parts))) q
 
       pub output_short : length out < r.header + r.text → called (refused 19 (r.header + r.text)) out ≡ read_call m p line out
       output_short h =
-          is_refused out
-          (right-check ∙ ap (λ t. cond t (taken parts) (rule.refusal 19 (output_length parts))) (lt-leb (output_length parts) (length out) (omega (arith, needed)))
-          ∙ ap (rule.refusal 19) (sym needed))
+          is_refused out (by_room (lt-leb (output_length parts) (length out) (omega (arith, needed))) ∙ ap (rule.refusal 19) (sym needed))
 
       pub is_taken : r.header + r.text ≤ length out → {numbers : Numbers} {after : List ℕ} → numbers ≡ held_by r
           → after ≡ sets out 0 (map (character (is_seven m)) (header_in (is_seven m) r line ++ text_in (is_seven m) r line))
           → called numbers after ≡ read_call m p line out
       is_taken h n s =
           ap₂ called (n ∙ taken_numbers) (taken_output out h s)
-          ∙ sym (ap (λ z. after_reading z out) (right-check ∙ ap (λ t. cond t (taken parts) (rule.refusal 19 (output_length parts))) (le-leb (output_length parts) (length out) (omega (arith, needed)))))
+          ∙ sym (ap (λ z. after_reading z out) (by_room (le-leb (output_length parts) (length out) (omega (arith, needed)))))
 
 -- ---- what the walk answers
 

@@ -24,7 +24,7 @@ fn held(f: Segments) -> Block
     }
 }
 
-// Questions 18 and 19 of a framed line, then header and text handed out.
+// Questions 18, 54 and 19 of a framed line, then header and text handed out.
 fn read_framed(link: Link, f: Segments, line: &[u8], out: &mut [u8]) -> Result<Block, ReadRefusal>
     requires { framed f ≡ framed_answer (is_seven link.method) line.now (rule.framed link.method link.parity line.now) }
     ensures { called (of_read result) out.new ≡ read_call link.method link.parity line.now out.old }
@@ -34,9 +34,7 @@ fn read_framed(link: Link, f: Segments, line: &[u8], out: &mut [u8]) -> Result<B
         segments: f,
         line,
     };
-    if !framed.check_right() {
-        return Err(ReadRefusal::WrongCheck);
-    }
+    framed.ask_check()?;
     let needed = f.header + f.text;
     if needed > out.len() {
         return Err(ReadRefusal::OutputShort(needed));

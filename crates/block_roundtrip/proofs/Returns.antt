@@ -21,7 +21,7 @@ use Rattle.block.specs.declared.WriteRefusal.{WriteRefusal}
 use Rattle.block.specs.declared.ReadRefusal.{ReadRefusal}
 use Rattle.block.specs.Check.{check_of}
 use Rattle.block.specs.Marks.{counted, check_bytes}
-use Rattle.block.specs.Read.{Framed, found, unframed, framed, Parts, parts_of, output_length, ReadAnswer, taken, refusal, ask_check, read_block, read_output}
+use Rattle.block.specs.Read.{Framed, found, unframed, framed, Parts, parts_of, output_length, ReadAnswer, taken, refusal, first_asked, then_asked, ask_check, read_block, read_output}
 use Rattle.block.specs.Write as writing
 use Rattle.block.specs.Answers.{of_read, of_read_answer, after_reading, read_call, of_written, of_write_answer, write_call}
 use Rattle.guarantees.specs.Second.{parts_written}
@@ -49,11 +49,17 @@ other_room : (m : Method) (p : Parity) (line : List ℕ) (room space : ℕ) (b :
 unfolding read_block
 other_room m p line room space b e = of-framed (framed m p line) e
   where
+    behind : (right : Bool) (n : ℕ) {x y : ReadAnswer} → (x ≡ taken b → y ≡ by_room b space) → cond right x (refusal n 0) ≡ taken b → cond right y (refusal n 0) ≡ by_room b space
+    behind right n = comparing.behind taken refusal output_length 19 same_parts not_taken right n 0 b space
+
     of-framed : (f : Framed) → ask_check m p line room f ≡ taken b → ask_check m p line space f ≡ by_room b space
     of-framed (unframed n v) q = absurd (not_taken n v b q)
     of-framed (found ks f k) q =
-        comparing.other_room taken refusal output_length 19 same_parts not_taken
-        (same (bits_of (check_bytes ks line)) (check_of m p (counted ks line))) (leb (output_length (parts_of m line ks f k)) room) (parts_of m line ks f k) b 18 0 space q
+        let received = bits_of (check_bytes ks line) in
+        let computed = check_of m p (counted ks line) in
+        let a = parts_of m line ks f k in
+        let last = comparing.of_room taken refusal output_length 19 same_parts not_taken (leb (output_length a) room) a b space in
+        behind (same (first_asked m received) (first_asked m computed)) 18 (behind (same (then_asked m received) (then_asked m computed)) 54 last) q
 
 -- ---- the calls
 

@@ -5,7 +5,7 @@ ghost use Rattle.block_framing.specs.Framings.{kept_bytes};
 
 use crate::kept::Keeping;
 
-// The kept bytes of a segment of methods 1 and 2, summed bit by bit.
+// The kept bytes of a segment of methods 1, 2 and 7, summed bit by bit.
 pub fn sum_kept(start: u8, clear: bool, part: &[u8]) -> u8
     ensures { result ≡ xor_all start (kept_bytes clear true false part.now) }
 {

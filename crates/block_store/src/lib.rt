@@ -21,7 +21,7 @@ fn sent(seven: bool, p: Parity, b: u8) -> u8
     if seven { with_parity(p, b) } else { b }
 }
 
-// Characters one by one, each with its parity bit in methods 1 and 2. Signs and checks are stored so: they are one or two bytes.
+// Characters one by one, each with its parity bit in methods 1, 2 and 7. Signs and checks are stored so: they are one or two bytes.
 pub fn store_each(seven: bool, parity: Parity, part: &[u8], out: &mut [u8], at: usize) -> usize
     ensures { Stored out.old at (map (characters.sent seven parity) part.now) out.new result }
 {
@@ -44,7 +44,7 @@ fn sixteen_sent(seven: bool, parity: Parity, part: &[u8; 16]) -> [u8; 16]
     bytes
 }
 
-// Characters, each with its parity bit in methods 1 and 2. The compiler takes 32 and more together by itself; of 16 to 31, the first
+// Characters, each with its parity bit in methods 1, 2 and 7. The compiler takes 32 and more together by itself; of 16 to 31, the first
 // 16 are made and stored at once here.
 pub fn store_characters(
     seven: bool,

@@ -20,7 +20,8 @@ method_of code =
     cond (eqb code 1) (Some method.Parity)
     (cond (eqb code 2) (Some method.Matrix)
     (cond (eqb code 3) (Some method.Cyclic)
-    (cond (eqb code 4) (Some method.CyclicAlternative) None)))
+    (cond (eqb code 4) (Some method.CyclicAlternative)
+    (cond (eqb code 7) (Some method.Diagonal) None))))
 
 abbrev pub parity_of : ℕ → Option Parity
 parity_of code = cond (eqb code 0) (Some parity.Even) (cond (eqb code 1) (Some parity.Odd) None)

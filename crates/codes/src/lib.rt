@@ -24,6 +24,7 @@ fn method_of(code: u8) -> Option<Method>
         2 => Some(Method::Matrix),
         3 => Some(Method::Cyclic),
         4 => Some(Method::CyclicAlternative),
+        7 => Some(Method::Diagonal),
         _ => None,
     }
 }

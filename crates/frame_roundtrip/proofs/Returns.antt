@@ -54,8 +54,9 @@ other_room m told lent room space s e = of_lent (leb told (8 * length lent)) e
     of-framed : (f : Framed) → ask_check m room f ≡ taken s → ask_check m space f ≡ by_room s space
     of-framed (unframed n v) q = absurd (not_taken n v s q)
     of-framed (found d) q =
-        comparing.other_room taken refusal content_bytes 38 same_content not_taken
-        (same (check_in m d) (check_bits m (content_of m d))) (leb (content_bytes (content_of m d)) room) (content_of m d) s 37 0 space q
+        let a = content_of m d in
+        let last = comparing.of_room taken refusal content_bytes 38 same_content not_taken (leb (content_bytes a) room) a s space in
+        comparing.behind taken refusal content_bytes 38 same_content not_taken (same (check_in m d) (check_bits m a)) 37 0 s space last q
 
     of_lent : (enough : Bool) → cond enough (ask_check m room (framed m (take told (bits_of lent)))) (refusal 31 0) ≡ taken s
         → cond enough (ask_check m space (framed m (take told (bits_of lent)))) (refusal 31 0) ≡ by_room s space

@@ -13,7 +13,7 @@ use Rattle.block.specs.declared.Parity.{Parity}
 use Rattle.guarantees.specs.Lines.{Lines, AcceptedHasFraming}
 use Rattle.guarantees.specs.Blocks.{blocks}
 use Rattle.guarantees.specs.Frames.{frames}
-use Rattle.guarantees.specs.Third.{AnyMethod, method_1, method_2, method_3, method_4, method_5, method_6, lines_of, Has16Bits, ThirdProperty}
+use Rattle.guarantees.specs.Third.{AnyMethod, method_1, method_2, method_3, method_4, method_5, method_6, method_7, lines_of, Has16Bits, ThirdProperty}
 use Rattle.guarantees.proofs.Lines.Masks.{Bridge, differ_where_checked, equal_where_checked}
 use Rattle.guarantees.proofs.Lines.Cyclic.{CyclicPairs, no_burst, never_odd, accepted_where_apart, at_least_three}
 use Rattle.guarantees.proofs.Frames.Numbers as frame-numbers
@@ -25,6 +25,7 @@ use Rattle.guarantees.proofs.Blocks.Framing as block-framing
 use Rattle.guarantees.proofs.Blocks.Bridge.{block_bridge}
 use Rattle.guarantees.proofs.Blocks.Cyclic.{cyclic_pairs_3, cyclic_pairs_4, any_parity}
 use Rattle.guarantees.proofs.Blocks.Parities.{distance-parity, distance_matrix, burst_matrix}
+use Rattle.guarantees.proofs.Blocks.Diagonals.{counted_diagonal, distance_diagonal, four_diagonal, six_diagonal}
 
 pub bridge : (m : AnyMethod) → Bridge (lines_of m)
 bridge (method_1 p) = block_bridge method.Parity p
@@ -33,6 +34,7 @@ bridge (method_3 p) = block_bridge method.Cyclic p
 bridge (method_4 p) = block_bridge method.CyclicAlternative p
 bridge method_5 = frame_bridge method5
 bridge method_6 = frame_bridge method6
+bridge (method_7 p) = block_bridge method.Diagonal p
 
 pub block_has_framing : (m : Method) (p : Parity) → AcceptedHasFraming (blocks m p)
 block_has_framing m p A acc = block-framing.has_framing m p A (block-framing.accepted_found m p A acc)
@@ -47,6 +49,7 @@ accepted_has_framing (method_3 p) = block_has_framing method.Cyclic p
 accepted_has_framing (method_4 p) = block_has_framing method.CyclicAlternative p
 accepted_has_framing method_5 = frame_has_framing method5
 accepted_has_framing method_6 = frame_has_framing method6
+accepted_has_framing (method_7 p) = block_has_framing method.Diagonal p
 
 -- what the lines of a 16-bit check rest on
 pub record Check16 (L : Lines) : Type 0 where
@@ -91,6 +94,7 @@ check_16 (method_3 p) h = record { parameters = method3; wide = width_3; pairs =
 check_16 (method_4 p) h = record { parameters = method4; wide = width_4; pairs = cyclic_pairs_4 p; terms = terms_4; order = order_4 }
 check_16 method_5 h = record { parameters = method5; wide = width_5; pairs = cyclic_frames method5 16 width_5; terms = terms_5; order = order_5 }
 check_16 method_6 h = absurd h
+check_16 (method_7 p) h = absurd h
 
 pub third_property : ThirdProperty
 third_property =
@@ -111,6 +115,10 @@ third_property =
       never_odd = λ m h. let c = check_16 m h in never_odd c.parameters 16 c.wide (lines_of m) (bridge m) c.pairs c.terms;
       accepted_where_apart =
           λ m h. let c = check_16 m h in accepted_where_apart c.parameters 16 c.wide (lines_of m) (bridge m) c.pairs order16 (omega arith) c.order;
+      distance_diagonal = distance_diagonal;
+      four_diagonal = four_diagonal;
+      six_diagonal = six_diagonal;
+      counted_diagonal = counted_diagonal;
       any_parity_3 = any_parity method.Cyclic refl;
       any_parity_4 = any_parity method.CyclicAlternative refl;
     }

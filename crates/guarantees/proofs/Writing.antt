@@ -18,11 +18,11 @@ use Rattle.block.specs.Characters.{is_seven}
 use Rattle.block.specs.Write.{is_clear, has_header, has_text, is_free, WriteAnswer, written, refusal, ask, ask_free, is_empty, counted_length, line_of, write_block}
 use Rattle.block.specs.Limits.{counted_limit}
 
--- no byte of a part is a sign, and under methods 1 and 2 each is below 80
+-- no byte of a part is a sign, and under methods 1, 2 and 7 each is below 80
 abbrev pub Free : Bool → List ℕ → Type 0
 Free seven = Each (λ c. is_free seven c ≡ true)
 
--- questions 1, 4, 2 and 3, under methods 1 and 2 (`seven`) or 3 and 4
+-- questions 1, 4, 2 and 3, under methods 1, 2 and 7 (`seven`) or 3 and 4
 pub record Allowed (seven : Bool) (s : Shape) (head body : List ℕ) : Type 0 where
   pub carried : not (seven && is_clear s) ≡ true
   pub header-fits : has_header s || is_empty head ≡ true

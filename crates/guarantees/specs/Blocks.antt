@@ -24,7 +24,7 @@ number_of (refusal number value) = number
 
 -- the refusals of a line that is not accepted, in the order asked
 abbrev pub refusals : List ℕ
-refusals = 11 ∷ 12 ∷ 13 ∷ 14 ∷ 15 ∷ 52 ∷ 53 ∷ 17 ∷ 18 ∷ []
+refusals = 11 ∷ 12 ∷ 13 ∷ 14 ∷ 15 ∷ 52 ∷ 53 ∷ 17 ∷ 18 ∷ 54 ∷ []
 
 -- accepted means none of them
 abbrev pub AcceptsByNumber : ReadAnswer → Type 0

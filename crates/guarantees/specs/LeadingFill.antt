@@ -53,7 +53,7 @@ read_before m p line room = ask_check m p line room (framed_before m p line)
 
 -- ---- "Lines taken before read as before."
 
--- in methods 1 and 2 it is the character that counts, without its parity bit
+-- in methods 1, 2 and 7 it is the character that counts, without its parity bit
 abbrev pub BeginsWithSyn : Method → List ℕ → Type 0
 BeginsWithSyn m line = first_sign (is_seven m) line ≡ syn
 
@@ -71,7 +71,7 @@ pub record ReadAsBefore (m : Method) (p : Parity) : Type 0 where
 abbrev pub fill : Method → Parity → ℕ → List ℕ
 fill m p k = replicate k (sent (is_seven m) p SYN)
 
--- the refusals that carry a place; 13, 15, 17 and 18 carry 0, 19 the needed bytes
+-- the refusals that carry a place; 13, 15, 17, 18 and 54 carry 0, 19 the needed bytes
 abbrev pub carries_place : ℕ → Bool
 carries_place = is_one_of (12 ∷ 14 ∷ 52 ∷ 53 ∷ [])
 

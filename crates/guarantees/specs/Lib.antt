@@ -1,4 +1,5 @@
 pub mod Lines
+pub mod Columns
 pub mod Blocks
 pub mod Frames
 pub mod Third

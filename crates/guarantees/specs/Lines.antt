@@ -12,7 +12,7 @@ is_one_of (k ∷ ks) n = eqb n k || is_one_of ks n
 abbrev pub NoneOf : List ℕ → ℕ → Type 0
 NoneOf ks n = is_one_of ks n ≡ false
 
--- the lines of one method: for methods 1 and 2, under one parity setting
+-- the lines of one method: for methods 1, 2 and 7, under one parity setting
 pub record Lines : Type 1 where
   pub Line : Type 0
   -- whether it can stand on a line: the numbers of a block are bytes

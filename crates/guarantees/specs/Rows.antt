@@ -92,6 +92,10 @@ rows =
     ∷ read Matrix Even (0x82 ∷ 0x41 ∷ 0x03 ∷ [])
     -- a byte behind the end sign of method 1 (document 02, card 3)
     ∷ read method.Parity Even (0x82 ∷ 0x41 ∷ 0x03 ∷ 0x42 ∷ [])
+    -- row 1's line under method 7 (document 02, card 5): as it is written, with another diagonal character, with another row check
+    ∷ read method.Diagonal Even (0x82 ∷ 0x41 ∷ 0x03 ∷ 0x42 ∷ 0x05 ∷ [])
+    ∷ read method.Diagonal Even (0x82 ∷ 0x41 ∷ 0x03 ∷ 0x42 ∷ 0x06 ∷ [])
+    ∷ read method.Diagonal Even (0x82 ∷ 0x41 ∷ 0x03 ∷ 0x41 ∷ 0x06 ∷ [])
     -- 11 and 12
     ∷ write method5 (0xFF ∷ [])
     ∷ write method5 (0xFF ∷ 0xFF ∷ [])
@@ -120,6 +124,10 @@ results =
     ∷ block (refusal 52 3)
     -- 53 behind the end sign of method 1
     ∷ block (refusal 53 3)
+    -- method 7
+    ∷ block (parts shape.Text Etx [] (0x41 ∷ []) 2)
+    ∷ block (refusal 54 0)
+    ∷ block (refusal 18 0)
     -- 11 and 12
     ∷ frame (0x00 ∷ 0xFF ∷ []) 42
     ∷ frame (0xFF ∷ 0xFF ∷ []) 54

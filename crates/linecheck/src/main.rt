@@ -1,4 +1,4 @@
-// The program of document 01, part 5: reads the settings, a digit 1 to 4 and `e` or `o`, and one line, which is every byte up to
+// The program of document 01, part 5: reads the settings, a digit 1 to 4 or 7 and `e` or `o`, and one line, which is every byte up to
 // the end of input. It prints `taken` with shape, end sign, lengths of header and text and the counted number, or `refused` with
 // number and place, or `settings`. It reads at most one byte more than question 11 allows, which decides the answer.
 #![tactic(auto)]
@@ -19,6 +19,7 @@ fn method_of(digit: u8) -> Option<Method> {
         b'2' => Some(Method::Matrix),
         b'3' => Some(Method::Cyclic),
         b'4' => Some(Method::CyclicAlternative),
+        b'7' => Some(Method::Diagonal),
         _ => None,
     }
 }

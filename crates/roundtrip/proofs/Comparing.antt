@@ -20,11 +20,15 @@ module _ {Read Answer : Type 0} (taken : Read → Answer) (refusal : ℕ → ℕ
   abbrev pub by_room : Read → ℕ → Answer
   by_room b room = cond (leb (size b) room) (taken b) (refusal number (size b))
 
-  pub other_room : (right holds : Bool) (a b : Read) (n v room : ℕ) → cond right (cond holds (taken a) (refusal number (size a))) (refusal n v) ≡ taken b
-      → cond right (by_room a room) (refusal n v) ≡ by_room b room
-  other_room true true a b n v room e = ap (λ z. by_room z room) (one_to_one a b e)
-  other_room true false a b n v room e = absurd (not_taken number (size a) b e)
-  other_room false holds a b n v room e = absurd (not_taken n v b e)
+  pub of_room : (holds : Bool) (a b : Read) (room : ℕ) → cond holds (taken a) (refusal number (size a)) ≡ taken b → by_room a room ≡ by_room b room
+  of_room true a b room e = ap (λ z. by_room z room) (one_to_one a b e)
+  of_room false a b room e = absurd (not_taken number (size a) b e)
+
+  -- a question before it
+  pub behind : (right : Bool) (n v : ℕ) (b : Read) (room : ℕ) {x y : Answer} → (x ≡ taken b → y ≡ by_room b room) → cond right x (refusal n v) ≡ taken b
+      → cond right y (refusal n v) ≡ by_room b room
+  behind true n v b room next e = next e
+  behind false n v b room next e = absurd (not_taken n v b e)
 
 not-both : {t : Bool} → t ≡ false → t ≡ true → ⊥
 not-both f e = let z : ◌≡◌ {A = ℕ} 0 1 = cc in omega arith

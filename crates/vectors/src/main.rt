@@ -85,5 +85,6 @@ fn main(rt: HostRuntime) -> io::Result<()> {
         &rt,
         "row 17, empty line, method 4:",
         Method::CyclicAlternative,
-    )
+    )?;
+    rows::row_17(&rt, "row 17, empty line, method 7:", Method::Diagonal)
 }

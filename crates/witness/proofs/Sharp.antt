@@ -24,7 +24,8 @@ use Rattle.block.specs.declared.Mark.TheVariants.{LeftOut, TextByte, End}
 use Rattle.block.specs.declared.Field.TheVariants.{Text}
 use Rattle.block.specs.Signs.{sign_of}
 use Rattle.block.specs.Characters.{character, parity_right}
-use Rattle.block.specs.Check.{column_sums, matrix_check, check_of, check_length}
+use Rattle.block.specs.Diagonals.{diagonal_bits}
+use Rattle.block.specs.Check.{row_sums, matrix_check, diagonal_check, check_of, check_length}
 use Rattle.block.specs.Read.{found, framed, framing_of}
 use Rattle.frame.specs.Stuffing.{is_fifth, run_on, stuff, unstuff, behind_five}
 use Rattle.frame.specs.Frame.{flag, enclose, frame_of}
@@ -32,8 +33,8 @@ use Rattle.frame.specs.Read as frame-reading
 use Rattle.guarantees.specs.Lines.{Lines, TwoAccepted, distance, differing_checked, AcceptedHasFraming, NoBurst}
 use Rattle.guarantees.specs.Blocks.{Accepted, checked_bits, blocks}
 use Rattle.guarantees.specs.Frames as frame-lines
-use Rattle.guarantees.specs.Third.{AnyMethod, method_1, method_2, method_3, method_4, method_5, method_6, lines_of, Has16Bits}
-use Rattle.witness.specs.Sharp.{DifferInJust, DifferInBurst, SharpBounds}
+use Rattle.guarantees.specs.Third.{AnyMethod, method_1, method_2, method_3, method_4, method_5, method_6, method_7, lines_of, Has16Bits}
+use Rattle.witness.specs.Sharp.{DifferInJust, DifferInBurst, DifferInColumns, SharpBounds}
 use Rattle.guarantees.proofs.Blocks.Framing.{CheckRight, accepted_right}
 use Rattle.guarantees.proofs.Frames.Framing as frame-framing
 use Rattle.guarantees.proofs.Third.{block_has_framing, frame_has_framing, third_property}
@@ -105,7 +106,7 @@ parity_pair Odd =
 
 -- rows 1 and 5 of document 01; row 2 with its character and check exchanged
 matrix_pair : (p : Parity) → DifferInJust 4 (lines_of (method_2 p))
-unfolding framed framing_of parity_right character sign_of check_of check_length pack pack_into value matrix_check column_sums low_bits bits_of xor
+unfolding framed framing_of parity_right character sign_of check_of check_length pack pack_into value matrix_check row_sums low_bits bits_of xor
 matrix_pair Even =
     record {
       A = 0x82 ∷ 0x41 ∷ 0x03 ∷ 0x42 ∷ [];
@@ -123,7 +124,7 @@ matrix_pair Odd =
 
 -- two characters exchanged
 exchanged_pair : (p : Parity) → DifferInBurst 10 (lines_of (method_2 p))
-unfolding framed framing_of checked_bits parity_right character sign_of check_of check_length pack pack_into value matrix_check column_sums low_bits bits_of xor
+unfolding framed framing_of checked_bits parity_right character sign_of check_of check_length pack pack_into value matrix_check row_sums low_bits bits_of xor
 exchanged_pair Even =
     in_burst (third_property.burst_matrix Even)
     (text_pair method.Matrix Even 2 (0x82 ∷ 0x41 ∷ 0x42 ∷ 0x03 ∷ 0x00 ∷ []) (0x82 ∷ 0x42 ∷ 0x41 ∷ 0x03 ∷ 0x00 ∷ [])
@@ -132,6 +133,62 @@ exchanged_pair Odd =
     in_burst (third_property.burst_matrix Odd)
     (text_pair method.Matrix Odd 2 (0x02 ∷ 0xC1 ∷ 0xC2 ∷ 0x83 ∷ 0x80 ∷ []) (0x02 ∷ 0xC2 ∷ 0xC1 ∷ 0x83 ∷ 0x80 ∷ [])
     (omega arith) refl refl (refl, refl) (refl, refl) refl) {ns = 0 ∷ 1 ∷ 8 ∷ 9 ∷ []} refl (omega arith)
+
+-- the text's first character and the row check: columns 1 and 8 of eight
+eight_columns : (p : Parity) → DifferInColumns 4 7 (1 ∷ 1 ∷ 8 ∷ 8 ∷ []) (lines_of (method_7 p))
+unfolding framed framing_of checked_bits parity_right character sign_of check_of check_length pack pack_into value matrix_check row_sums diagonal_check diagonal_bits low_bits bits_of xor
+eight_columns Even =
+    record {
+      in_just =
+          record {
+            A = 0x82 ∷ 0x41 ∷ 0x41 ∷ 0x41 ∷ 0x41 ∷ 0x41 ∷ 0x41 ∷ 0x03 ∷ 0x03 ∷ 0x0C ∷ [];
+            B = 0x82 ∷ 0x42 ∷ 0x41 ∷ 0x41 ∷ 0x41 ∷ 0x41 ∷ 0x41 ∷ 0x03 ∷ 0x00 ∷ 0x0C ∷ [];
+            two_accepted = text_pair method.Diagonal Even 6 _ _ (omega arith) refl refl (refl, refl) (refl, refl) refl;
+            bits = refl;
+          };
+      counted = refl;
+      columns_are = refl;
+    }
+eight_columns Odd =
+    record {
+      in_just =
+          record {
+            A = 0x02 ∷ 0xC1 ∷ 0xC1 ∷ 0xC1 ∷ 0xC1 ∷ 0xC1 ∷ 0xC1 ∷ 0x83 ∷ 0x83 ∷ 0x8C ∷ [];
+            B = 0x02 ∷ 0xC2 ∷ 0xC1 ∷ 0xC1 ∷ 0xC1 ∷ 0xC1 ∷ 0xC1 ∷ 0x83 ∷ 0x80 ∷ 0x8C ∷ [];
+            two_accepted = text_pair method.Diagonal Odd 6 _ _ (omega arith) refl refl (refl, refl) (refl, refl) refl;
+            bits = refl;
+          };
+      counted = refl;
+      columns_are = refl;
+    }
+
+-- a character, the row check and the diagonal character
+three_columns : (p : Parity) → DifferInColumns 6 2 (1 ∷ 1 ∷ 3 ∷ 3 ∷ 4 ∷ 4 ∷ []) (lines_of (method_7 p))
+unfolding framed framing_of checked_bits parity_right character sign_of check_of check_length pack pack_into value matrix_check row_sums diagonal_check diagonal_bits low_bits bits_of xor
+three_columns Even =
+    record {
+      in_just =
+          record {
+            A = 0x82 ∷ 0x41 ∷ 0x03 ∷ 0x42 ∷ 0x05 ∷ [];
+            B = 0x82 ∷ 0x44 ∷ 0x03 ∷ 0x47 ∷ 0x27 ∷ [];
+            two_accepted = text_pair method.Diagonal Even 1 _ _ (omega arith) refl refl (refl, refl) (refl, refl) refl;
+            bits = refl;
+          };
+      counted = refl;
+      columns_are = refl;
+    }
+three_columns Odd =
+    record {
+      in_just =
+          record {
+            A = 0x02 ∷ 0xC1 ∷ 0x83 ∷ 0xC2 ∷ 0x85 ∷ [];
+            B = 0x02 ∷ 0xC4 ∷ 0x83 ∷ 0xC7 ∷ 0xA7 ∷ [];
+            two_accepted = text_pair method.Diagonal Odd 1 _ _ (omega arith) refl refl (refl, refl) (refl, refl) refl;
+            bits = refl;
+          };
+      counted = refl;
+      columns_are = refl;
+    }
 
 -- texts that differ by the generator: x^16 + x^12 + x^5 + 1, and x^16 + x^15 + x^2 + 1
 burst_3 : (p : Parity) → DifferInBurst 17 (lines_of (method_3 p))
@@ -194,6 +251,7 @@ burst_16 (method_3 p) h = burst_3 p
 burst_16 (method_4 p) h = burst_4 p
 burst_16 method_5 h = burst_5
 burst_16 method_6 h = absurd h
+burst_16 (method_7 p) h = absurd h
 
 pub sharp_bounds : SharpBounds
 sharp_bounds =
@@ -203,4 +261,6 @@ sharp_bounds =
       burst_matrix = exchanged_pair;
       burst_16 = burst_16;
       burst_32 = burst_6;
+      four_diagonal = eight_columns;
+      six_diagonal = three_columns;
     }

@@ -1,10 +1,11 @@
 -- The bounds of the third property are met: accepted lines that differ in just the least number of bits, and bursts one bit longer
 -- than those that never occur. Assumes nothing.
-use Rattle.std.specs.Prelude.{◌≡◌, ℕ, ◌<◌}
+use Rattle.std.specs.Prelude.{◌≡◌, ℕ, ◌<◌, List, [], ◌∷◌}
 use Rattle.bits.specs.Differences.{Burst}
 use Rattle.block.specs.declared.Parity.{Parity}
 use Rattle.guarantees.specs.Lines.{Lines, TwoAccepted, distance, differing_checked}
-use Rattle.guarantees.specs.Third.{AnyMethod, method_1, method_2, method_6, lines_of, Has16Bits}
+use Rattle.guarantees.specs.Columns.{Counted, differing_columns}
+use Rattle.guarantees.specs.Third.{AnyMethod, method_1, method_2, method_6, method_7, lines_of, Has16Bits}
 
 -- two unequal accepted lines that differ in just n bits
 pub record DifferInJust (n : ℕ) (L : Lines) : Type 0 where
@@ -21,9 +22,18 @@ pub record DifferInBurst (n : ℕ) (L : Lines) : Type 0 where
   pub burst : Burst n (differing_checked L A B)
   pub none_shorter : (b : ℕ) → b < n → Burst b (differing_checked L A B) → ⊥
 
+-- in just m bits, of these columns, with n counted bytes
+pub record DifferInColumns (m n : ℕ) (columns : List ℕ) (L : Lines) : Type 0 where
+  pub in_just : DifferInJust m L
+  pub counted : Counted L in_just.A n
+  pub columns_are : differing_columns L in_just.A in_just.B ≡ columns
+
 pub record SharpBounds : Type 0 where
   pub distance-parity : (p : Parity) → DifferInJust 2 (lines_of (method_1 p))
   pub distance_matrix : (p : Parity) → DifferInJust 4 (lines_of (method_2 p))
   pub burst_matrix : (p : Parity) → DifferInBurst 10 (lines_of (method_2 p))
   pub burst_16 : (m : AnyMethod) → Has16Bits m → DifferInBurst 17 (lines_of m)
   pub burst_32 : DifferInBurst 33 (lines_of method_6)
+  -- with n + 1 = 8, columns 1 and 8; with n + 1 = 3, six bits
+  pub four_diagonal : (p : Parity) → DifferInColumns 4 7 (1 ∷ 1 ∷ 8 ∷ 8 ∷ []) (lines_of (method_7 p))
+  pub six_diagonal : (p : Parity) → DifferInColumns 6 2 (1 ∷ 1 ∷ 3 ∷ 3 ∷ 4 ∷ 4 ∷ []) (lines_of (method_7 p))

@@ -22,7 +22,7 @@ const REPLACED: usize = 50;
 const BESIDE: [u8; 9] = [0x00, 0x04, 0x0F, 0x11, 0x15, 0x18, 0x1E, 0x20, 0x7F];
 
 /// Each place below a length, with each sign and each character beside them,
-/// without and with its top bit: in methods 1 and 2 just one of the two has
+/// without and with its top bit: in methods 1, 2 and 7 just one of the two has
 /// the right parity.
 fn at_each(length: usize) -> impl Iterator<Item = (usize, u8)> {
     let characters = || RESERVED.into_iter().chain(BESIDE);

@@ -6,7 +6,7 @@ use super::{kinds, parts, Data, DATA};
 use crate::judge::{Judge, Room};
 use crate::lines::filled;
 use crate::peer::block::Parts;
-use crate::peer::signs::{Link, Shape, Text, SHAPES};
+use crate::peer::signs::{Link, Shape, Text, METHODS, SHAPES};
 use crate::random::Random;
 use crate::small::settings;
 
@@ -27,10 +27,7 @@ pub fn run(judge: &mut Judge, random: &mut Random) {
             runs(judge, &parts(random, kind, Data::Above, (130, 130)));
         }
     }
-    for (method, shape) in [1, 2, 3, 4]
-        .into_iter()
-        .flat_map(|m| SHAPES.map(|s| (m, s)))
-    {
+    for (method, shape) in METHODS.into_iter().flat_map(|m| SHAPES.map(|s| (m, s))) {
         let link = Link { method, odd: true };
         if shape.text != Text::Clear {
             pieces(judge, random, (link, shape));

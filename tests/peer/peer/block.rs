@@ -1,6 +1,7 @@
-//! Writing and reading of one block, methods 1 to 4.
+//! Writing and reading of one block, methods 1 to 4 and 7.
 
 use super::bits;
+use super::diagonals;
 use super::division::{APPENDIX_1, APPENDIX_3};
 use super::grammar::{walk, Walked};
 use super::signs::{Link, Shape, Text, DLE, ETB, ETX, SOH, STX, SYN, US};
@@ -84,7 +85,13 @@ pub fn check(link: Link, counted: &[u8]) -> Vec<u8> {
         1 => Vec::new(),
         2 => vec![link.sent(counted.iter().fold(0, |sum, byte| sum ^ byte) & 0x7F)],
         3 => bits::to_bytes(&APPENDIX_1.check(&bits::of_bytes(counted))),
-        _ => bits::to_bytes(&APPENDIX_3.check(&bits::of_bytes(counted))),
+        4 => bits::to_bytes(&APPENDIX_3.check(&bits::of_bytes(counted))),
+        _ => {
+            let matrix = Link { method: 2, ..link };
+            let row_check = check(matrix, counted);
+            let diagonal = link.sent(diagonals::character(counted, row_check[0]));
+            [row_check, vec![diagonal]].concat()
+        }
     }
 }
 
@@ -93,7 +100,7 @@ fn accepts(link: Link, counted: &[u8], tail: &[u8]) -> bool {
     let received = || bits::of_bytes(&[counted, tail].concat());
     match link.method {
         1 => true,
-        2 => check(link, counted) == tail,
+        2 | 7 => check(link, counted) == tail,
         3 => APPENDIX_1.accepts(&received()),
         _ => APPENDIX_3.accepts(&received()),
     }
@@ -112,13 +119,16 @@ pub fn frame(link: Link, line: &[u8]) -> Result<Walked, Refusal> {
     Ok(walked)
 }
 
-/// Takes a line: the same, and 18.
+/// Takes a line: the same, 18 and 54.
 pub fn take(link: Link, line: &[u8]) -> Result<Walked, Refusal> {
     let walked = frame(link, line)?;
     let counted: Vec<u8> = walked.counted.iter().map(|place| line[*place]).collect();
-    ask(
-        accepts(link, &counted, &line[walked.behind..]),
-        Refusal::plain(18),
-    )?;
+    let tail = &line[walked.behind..];
+    if link.method == 7 {
+        let matrix = Link { method: 2, ..link };
+        ask(accepts(matrix, &counted, &tail[..1]), Refusal::plain(18))?;
+        ask(accepts(link, &counted, tail), Refusal::plain(54))?;
+    }
+    ask(accepts(link, &counted, tail), Refusal::plain(18))?;
     Ok(walked)
 }

@@ -8,6 +8,7 @@
 
 pub mod bits;
 pub mod block;
+pub mod diagonals;
 pub mod division;
 pub mod frame;
 pub mod grammar;

@@ -14,8 +14,11 @@ pub const RESERVED: [u8; 7] = [SOH, STX, ETX, DLE, SYN, ETB, US];
 /// The three signs that end a block.
 pub const ENDS: [u8; 3] = [ETX, ETB, US];
 
-/// What a link sets for all its blocks: method 1 to 4, and the parity of
-/// methods 1 and 2.
+/// The methods of blocks.
+pub const METHODS: [u8; 5] = [1, 2, 3, 4, 7];
+
+/// What a link sets for all its blocks: method 1 to 4 or 7, and the parity of
+/// methods 1, 2 and 7.
 #[derive(Clone, Copy, PartialEq, Eq, Debug)]
 pub struct Link {
     pub method: u8,
@@ -23,17 +26,21 @@ pub struct Link {
 }
 
 impl Link {
-    /// Methods 1 and 2 carry seven-bit characters under a parity bit.
+    /// Methods 1, 2 and 7 carry seven-bit characters under a parity bit.
     pub fn seven_bits(self) -> bool {
-        self.method <= 2
+        [1, 2, 7].contains(&self.method)
     }
 
     /// Bytes of the check behind the end sign.
     pub fn check_bytes(self) -> usize {
-        [0, 1, 2, 2][usize::from(self.method) - 1]
+        match self.method {
+            1 => 0,
+            2 => 1,
+            _ => 2,
+        }
     }
 
-    /// The byte on the line for a character: with its parity in methods 1, 2.
+    /// The byte on the line for a character: with its parity in methods 1, 2, 7.
     pub fn sent(self, character: u8) -> u8 {
         let parity = character.count_ones() % 2 == u32::from(!self.odd);
         if self.seven_bits() {

@@ -1,4 +1,4 @@
--- Bytes of one parity and one sum of columns: unequal ones differ in at least four bits, and in no burst of at most nine.
+-- Bytes of one parity and with one sum of rows: unequal ones differ in at least four bits, and in no burst of at most nine.
 -- Assumes nothing.
 use mathlib.Core.Path.{◌≡◌, refl, sym, ap, ap₂, ◌∙◌}
 use Prim.Native.Nat.{ℕ, zero, suc, ◌+◌, ◌-◌, ◌%◌, ◌≤◌}
@@ -17,9 +17,9 @@ use Rattle.division.proofs.Linear.{length-remainder, remainder-append}
 use Rattle.division.proofs.Zeros.{leading, trailing}
 use Rattle.division.proofs.Detection.{difference}
 use Rattle.block.specs.declared.Parity.{Parity}
-use Rattle.block.specs.Check.{column_sums}
+use Rattle.block.specs.Check.{row_sums}
 use Rattle.block.proofs.Passed.{ParitiesRight}
-use Rattle.guarantees.proofs.Blocks.ColumnSums.{all_sums, length-all, one_more_sums, divisor, divide-eight, remainder_bytes}
+use Rattle.guarantees.proofs.Blocks.RowSums.{all_sums, length-all, one_more_sums, divisor, divide-eight, remainder_bytes}
 
 -- ---- bytes, pair by pair of one parity
 
@@ -37,7 +37,7 @@ equal_parities p (a ∷ x) (b ∷ y) l h k = one_byte a b (h.0 ∙ sym k.0) (equ
 abbrev pub distance_of : List ℕ → List ℕ → ℕ
 distance_of x y = weight (xor_bits (bits_of x) (bits_of y))
 
-abbrev byte_distance : ℕ → ℕ → ℕ
+abbrev pub byte_distance : ℕ → ℕ → ℕ
 byte_distance a b = weight (xor_bits (low_bits 8 a) (low_bits 8 b))
 
 distance-cons : (a b : ℕ) (x y : List ℕ) → distance_of (a ∷ x) (b ∷ y) ≡ byte_distance a b + distance_of x y
@@ -60,7 +60,7 @@ no_distance a b e =
     ap (λ z. weight (xor_bits (low_bits 8 a) z)) (sym e) ∙ ap weight (xor_bits_self (low_bits 8 a)) ∙ weight-zeros (length (low_bits 8 a))
 
 -- two bytes of one parity differ in an even number of bits
-even_byte : (a b : ℕ) → parity (low_bits 8 a) ≡ parity (low_bits 8 b) → byte_distance a b % 2 ≡ 0
+pub even_byte : (a b : ℕ) → parity (low_bits 8 a) ≡ parity (low_bits 8 b) → byte_distance a b % 2 ≡ 0
 even_byte a b e =
     let s = parity (low_bits 8 b) in
     weight-parity (xor_bits (low_bits 8 a) (low_bits 8 b))
@@ -76,7 +76,7 @@ at_least_two (one_byte {x} {y} a b e h) n = go (byte_distance a b) refl (at_leas
     go (suc zero) q rest = absurd (omega (arith, even_byte a b e))
     go (suc (suc w)) q rest = omega (arith, distance-cons a b x y)
 
--- ---- all eight columns have one sum: the parity gives the eighth
+-- ---- all eight rows have one sum: the parity gives the eighth
 
 by_parity : (u v : List Bool) (s t : Bool) → u ≡ v → parity (u ++ s ∷ []) ≡ parity (v ++ t ∷ []) → u ++ s ∷ [] ≡ v ++ t ∷ []
 by_parity u v s t e h =
@@ -89,11 +89,11 @@ parity-all (one_byte {x} {y} a b e h) =
     parity-xor (low_bits 8 a) (all_sums x) (length-low_bits 8 a ∙ sym (length-all x)) ∙ ap₂ xor e (parity-all h)
     ∙ sym (parity-xor (low_bits 8 b) (all_sums y) (length-low_bits 8 b ∙ sym (length-all y)))
 
-all_equal : {x y : List ℕ} → EqualParities x y → column_sums x ≡ column_sums y → all_sums x ≡ all_sums y
+all_equal : {x y : List ℕ} → EqualParities x y → row_sums x ≡ row_sums y → all_sums x ≡ all_sums y
 all_equal {x} {y} h e =
     let s = one_more_sums x in
     let t = one_more_sums y in
-    s.1 ∙ by_parity (column_sums x) (column_sums y) s.0 t.0 e (sym (ap parity s.1) ∙ parity-all h ∙ ap parity t.1) ∙ sym t.1
+    s.1 ∙ by_parity (row_sums x) (row_sums y) s.0 t.0 e (sym (ap parity s.1) ∙ parity-all h ∙ ap parity t.1) ∙ sym t.1
 
 -- ---- at least four bits
 
@@ -127,7 +127,7 @@ four_bits (one_byte {x} {y} a b e h) s n = go (byte_distance a b) refl (four_bit
         let two = at_least_two h (λ z. omega (arith, no_distance a b (byte_equal z))) in
         omega (arith, distance-cons a b x y)
 
-pub at_least_four : {x y : List ℕ} → EqualParities x y → column_sums x ≡ column_sums y → (bits_of x ≡ bits_of y → ⊥) → 4 ≤ distance_of x y
+pub at_least_four : {x y : List ℕ} → EqualParities x y → row_sums x ≡ row_sums y → (bits_of x ≡ bits_of y → ⊥) → 4 ≤ distance_of x y
 at_least_four h e = four_bits h (all_equal h e)
 
 -- ---- a burst of at most nine bits
@@ -159,7 +159,7 @@ short_bits v l d =
     omega (arith, weight-append (zeros k) v, weight-zeros k)
 
 -- so bytes that differ in such a burst differ in at most two bits
-pub at_most_two : {x y : List ℕ} → EqualParities x y → length x ≡ length y → column_sums x ≡ column_sums y → (b : ℕ) → b ≤ 9
+pub at_most_two : {x y : List ℕ} → EqualParities x y → length x ≡ length y → row_sums x ≡ row_sums y → (b : ℕ) → b ≤ 9
     → Burst b (differing (bits_of x) (bits_of y)) → distance_of x y ≤ 2
 at_most_two {x} {y} h l e b s u =
     let v = burst_window b (bits_of x) (bits_of y) u in

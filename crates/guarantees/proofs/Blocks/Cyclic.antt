@@ -81,6 +81,7 @@ one_check method.Parity e p q bs = absurd (true≢false e)
 one_check method.Matrix e p q bs = absurd (true≢false e)
 one_check method.Cyclic e p q bs = refl
 one_check method.CyclicAlternative e p q bs = refl
+one_check method.Diagonal e p q bs = absurd (true≢false e)
 
 module _ (m : Method) (eight : is_seven m ≡ false) (p q : Parity) (line : List ℕ) (room : ℕ) where
   one_framed : framed m p line ≡ framed m q line

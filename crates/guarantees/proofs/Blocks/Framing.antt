@@ -1,5 +1,6 @@
--- A block with a framing is one whose marks the questions up to 17 found; it is accepted where 18 finds its check right. Assumes nothing.
-use mathlib.Core.Path.{◌≡◌, refl, sym, ap, ◌∙◌}
+-- A block with a framing is one whose marks the questions up to 17 found; it is accepted where 18 and 54 find its check right.
+-- Assumes nothing.
+use mathlib.Core.Path.{◌≡◌, refl, sym, ap, ap₂, ◌∙◌}
 use mathlib.Core.Logic.{◌↔◌}
 use Prim.Native.Nat.{ℕ}
 use native.Mathlib.Omega.{arith}
@@ -8,7 +9,6 @@ use mathlib.Core.List.{List}
 use lib.Dec.{leb}
 use Rattle.bits.specs.Strings.{same}
 use Rattle.bits.specs.Bytes.{bits_of}
-use Rattle.bits.proofs.Strings.{same_sound, same_self}
 use Rattle.block.specs.declared.Method.{Method}
 use Rattle.block.specs.declared.Parity.{Parity}
 use Rattle.block.specs.declared.EndSign.{EndSign}
@@ -16,13 +16,14 @@ use Rattle.block.specs.declared.Mark.{Mark}
 use Rattle.block.specs.declared.Field.{Field}
 use Rattle.block.specs.Marks.{counted, check_bytes, left_out}
 use Rattle.block.specs.Check.{check_of}
-use Rattle.block.specs.Read.{Framed, found, unframed, framed, none, framing, framing_by, framing_of, ask_check, Parts, parts_of, output_length, read_block}
+use Rattle.block.specs.Read.{Framed, found, unframed, framed, none, framing, framing_by, framing_of, first_asked, then_asked, ask_check, Parts, parts_of, output_length, read_block}
+use Rattle.block.proofs.Asked.{asked_both, first-self, then-self}
 use Rattle.guarantees.specs.Lines.{SameFraming}
 use Rattle.guarantees.specs.Blocks.{Accepts, Accepted, refusals, blocks}
 use Rattle.guarantees.proofs.Lines.Numbers.{listed_not_last}
 use Rattle.guarantees.proofs.Blocks.Numbers.{FramedNumbered, framed_numbered, answer}
 
--- ---- a line with a framing; accepted where 18 finds its check right
+-- ---- a line with a framing; accepted where 18 and 54 find its check right
 
 abbrev pub CheckRight : Method → Parity → List Mark → List ℕ → Type 0
 CheckRight m p ks line = bits_of (check_bytes ks line) ≡ check_of m p (counted ks line)
@@ -73,20 +74,27 @@ module _ (m : Method) (p : Parity) (line : List ℕ) where
     abbrev fits : ℕ → Bool
     fits room = leb (output_length parts) room
 
-    answer_to : (room : ℕ) {t : Bool} → same received computed ≡ t → read_block m p line room ≡ answer t (fits room) parts
-    answer_to room e = answered (found r.marks r.field r.end) room r.is_found ∙ ap (λ t. answer t (fits room) parts) e
+    abbrev first : Bool
+    first = same (first_asked m received) (first_asked m computed)
 
-    pub right_answer : CheckRight m p r.marks line → (room : ℕ) → read_block m p line room ≡ answer true (fits room) parts
-    right_answer e room = answer_to room (ap (same received) (sym e) ∙ same_self received)
+    abbrev second : Bool
+    second = same (then_asked m received) (then_asked m computed)
+
+    answer_to : (room : ℕ) {t u : Bool} → first ≡ t → second ≡ u → read_block m p line room ≡ answer t u (fits room) parts
+    answer_to room e f = answered (found r.marks r.field r.end) room r.is_found ∙ ap₂ (λ t u. answer t u (fits room) parts) e f
+
+    pub right_answer : CheckRight m p r.marks line → (room : ℕ) → read_block m p line room ≡ answer true true (fits room) parts
+    right_answer e room = answer_to room (first-self m e) (then-self m e)
 
     pub accepted_right : Accepted m p line ↔ CheckRight m p r.marks line
-    accepted_right = (λ acc. go acc (same received computed) refl, λ e room. rw (right_answer e room) (right (fits room)))
+    accepted_right = (λ acc. go acc first refl second refl, λ e room. rw (right_answer e room) (right (fits room)))
       where
-        go : Accepted m p line → (t : Bool) → same received computed ≡ t → received ≡ computed
-        go acc true e = same_sound received computed (rw e tt)
-        go acc false e = let q : ◌≡◌ {A = ℕ} 18 19 = rw (answer_to 0 e) at (acc 0) in absurd (omega arith)
+        go : Accepted m p line → (t : Bool) → first ≡ t → (u : Bool) → second ≡ u → received ≡ computed
+        go acc true e true f = asked_both m received computed e f
+        go acc true e false f = let q : ◌≡◌ {A = ℕ} 54 19 = rw (answer_to 0 e f) at (acc 0) in absurd (omega arith)
+        go acc false e u f = let q : ◌≡◌ {A = ℕ} 18 19 = rw (answer_to 0 e f) at (acc 0) in absurd (omega arith)
 
-        right : (t : Bool) → Accepts (answer true t parts)
+        right : (t : Bool) → Accepts (answer true true t parts)
         right true = tt
         right false = refl
 

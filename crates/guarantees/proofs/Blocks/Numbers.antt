@@ -22,7 +22,7 @@ use Rattle.block.specs.Characters.{is_seven, character, parity_right}
 use Rattle.block.specs.Walk.{Stop, ended, refused, Walked, judge, cut, onward, walk}
 use Rattle.block.specs.Marks.{counted, check_bytes}
 use Rattle.block.specs.Check.{check_of, check_length}
-use Rattle.block.specs.Read.{Framed, found, unframed, ask, ask_parities, ask_end, ask_walk, framed, ask_check, Parts, parts_of, output_length, ReadAnswer, taken, refusal, read_block}
+use Rattle.block.specs.Read.{Framed, found, unframed, ask, ask_parities, ask_end, ask_walk, framed, first_asked, then_asked, ask_check, Parts, parts_of, output_length, ReadAnswer, taken, refusal, read_block}
 use Rattle.block.specs.Limits.{counted_limit, line_limit}
 use Rattle.block.proofs.CheckLaws.{check_length_lem}
 use Rattle.block.proofs.Walks.{marks-within}
@@ -126,19 +126,20 @@ framed-others p line =
     method.Parity p line
     (λ e. absurd (omega (arith, marks-within seven line 0 Start, check_length_lem method.Parity, leb-false needed (length line) e)))
 
--- ---- 18 and 19
+-- ---- 18, 54 and 19
 
-abbrev pub answer : Bool → Bool → Parts → ReadAnswer
-answer right fits b = cond right (cond fits (taken b) (refusal 19 (output_length b))) (refusal 18 0)
+abbrev pub answer : Bool → Bool → Bool → Parts → ReadAnswer
+answer first second fits b = cond first (cond second (cond fits (taken b) (refusal 19 (output_length b))) (refusal 54 0)) (refusal 18 0)
 
 abbrev AnswerNumbered : ReadAnswer → Type 0
 AnswerNumbered (taken b) = Unit
 AnswerNumbered (refusal n v) = Numbered refusals 19 n
 
-answer_numbered : (right fits : Bool) (b : Parts) → AnswerNumbered (answer right fits b)
-answer_numbered true true b = tt
-answer_numbered true false b = for_output refl
-answer_numbered false fits b = listed refl
+answer_numbered : (first second fits : Bool) (b : Parts) → AnswerNumbered (answer first second fits b)
+answer_numbered true true true b = tt
+answer_numbered true true false b = for_output refl
+answer_numbered true false fits b = listed refl
+answer_numbered false second fits b = listed refl
 
 by_number : (a : ReadAnswer) → AnswerNumbered a → AcceptsByNumber a
 by_number (taken b) h = (λ u. refl, λ u. tt)
@@ -149,7 +150,9 @@ module _ (m : Method) (p : Parity) (line : List ℕ) (room : ℕ) where
   check_numbered (unframed n v) h = listed h
   check_numbered (found ks f e) h =
       let b = parts_of m line ks f e in
-      answer_numbered (same (bits_of (check_bytes ks line)) (check_of m p (counted ks line))) (leb (output_length b) room) b
+      let received = bits_of (check_bytes ks line) in
+      let computed = check_of m p (counted ks line) in
+      answer_numbered (same (first_asked m received) (first_asked m computed)) (same (then_asked m received) (then_asked m computed)) (leb (output_length b) room) b
 
   pub accepts_by_number : AcceptsByNumber (read_block m p line room)
   unfolding read_block
@@ -159,13 +162,16 @@ pub never_short : (p : Parity) (line : List ℕ) (room : ℕ) → number_of (rea
 unfolding read_block
 never_short p line room = go (framed method.Parity p line) (framed-others p line)
   where
-    checked : (right fits : Bool) (b : Parts) → number_of (answer right fits b) ≡ 52 → ⊥
-    checked true true b e = omega arith
-    checked true false b e = omega arith
-    checked false fits b e = omega arith
+    checked : (first second fits : Bool) (b : Parts) → number_of (answer first second fits b) ≡ 52 → ⊥
+    checked true true true b e = omega arith
+    checked true true false b e = omega arith
+    checked true false fits b e = omega arith
+    checked false second fits b e = omega arith
 
     go : (w : Framed) → FramedIn others w → number_of (ask_check method.Parity p line room w) ≡ 52 → ⊥
     go (unframed n v) h e = listed_not_last others 52 n refl h e
     go (found ks f d) h e =
         let b = parts_of method.Parity line ks f d in
-        checked (same (bits_of (check_bytes ks line)) (check_of method.Parity p (counted ks line))) (leb (output_length b) room) b e
+        let received = bits_of (check_bytes ks line) in
+        let computed = check_of method.Parity p (counted ks line) in
+        checked (same received computed) (same [] []) (leb (output_length b) room) b e

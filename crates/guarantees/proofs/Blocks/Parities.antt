@@ -1,4 +1,4 @@
--- Blocks of methods 1 and 2: the parities of their bytes, and under matrix the sums of their columns with the check's. Assumes nothing.
+-- Blocks of methods 1, 2 and 7: the parities of their bytes, and the sums of the matrix's rows with its check. Assumes nothing.
 use mathlib.Core.Path.{◌≡◌, refl, sym, ap, ap₂, ◌∙◌}
 use Prim.Native.Nat.{ℕ, zero, suc, ◌*◌, ◌≤◌}
 use native.Mathlib.Omega.{arith}
@@ -11,12 +11,13 @@ use Rattle.bits.specs.Differences.{cons_if}
 use Rattle.bits.proofs.Strings.{append_split, xor_bits_comm, xor_bits_assoc, xor_bits-zeros, xor_bits_self}
 use Rattle.bits.proofs.Bytes.{length-low_bits, length-bits_of, bits_of_one, bits_of_injective}
 use Rattle.bits.proofs.Differences.{length-differing}
+use Rattle.block.specs.declared.Method.{Method}
 use Rattle.block.specs.declared.Method.TheVariants as method
 use Rattle.block.specs.declared.Parity.{Parity}
 use Rattle.block.specs.declared.Mark.{Mark}
-use Rattle.block.specs.Characters.{is_odd}
+use Rattle.block.specs.Characters.{is_seven, is_odd}
 use Rattle.block.specs.Marks.{is_counted, sift, counted, check_bytes}
-use Rattle.block.specs.Check.{column_sums, matrix_check, check_of}
+use Rattle.block.specs.Check.{row_sums, matrix_check, check_of}
 use Rattle.block.proofs.CheckLaws.{length-sums, check_length_lem}
 use Rattle.block.proofs.Passed.{ParitiesRight}
 use Rattle.guarantees.specs.Lines.{TwoAccepted, distance, AtLeast, NoBurst}
@@ -24,7 +25,7 @@ use Rattle.guarantees.specs.Blocks.{Accepted, checked_bits, blocks}
 use Rattle.guarantees.proofs.Lines.Masks.{differ_where_checked, equal_where_checked, length-checked}
 use Rattle.guarantees.proofs.Blocks.Framing.{Found, accepted_right, OneFraming, one_framing}
 use Rattle.guarantees.proofs.Blocks.Bridge.{checked_bits_lem, all-passed, block_bridge}
-use Rattle.guarantees.proofs.Blocks.ColumnSums.{one_more_byte}
+use Rattle.guarantees.proofs.Blocks.RowSums.{one_more_byte}
 use Rattle.guarantees.proofs.Blocks.Columns.{EqualParities, equal_parities, distance_of, at_least_two, at_least_four, at_most_two}
 
 -- ---- method 1
@@ -42,7 +43,7 @@ distance-parity p A B t =
           (λ e. t.unequal (bits_of_injective A B s.lines.0 s.lines.1 s.one_length e)),
     )
 
--- ---- method 2: the parities of the checked bytes
+-- ---- the parities of the checked bytes
 
 module _ (p : Parity) where
   right-sift : (is : Mark → Bool) (ks : List Mark) (line : List ℕ) → ParitiesRight p line → ParitiesRight p (sift is ks line)
@@ -63,98 +64,104 @@ module _ (p : Parity) where
   right-append [] y h k = k
   right-append (b ∷ x) y h k = (h.0, right-append x y h.1 k)
 
--- ---- with their check the columns sum to zero
+-- ---- with their check the rows sum to zero
 
-sums-append : (x y : List ℕ) → column_sums (x ++ y) ≡ xor_bits (column_sums x) (column_sums y)
-unfolding column_sums
-sums-append [] y = sym (xor_bits-zeros 7 (column_sums y) (length-sums y))
-sums-append (b ∷ x) y = ap (xor_bits (low_bits 7 b)) (sums-append x y) ∙ sym (xor_bits_assoc (low_bits 7 b) (column_sums x) (column_sums y))
+sums-append : (x y : List ℕ) → row_sums (x ++ y) ≡ xor_bits (row_sums x) (row_sums y)
+unfolding row_sums
+sums-append [] y = sym (xor_bits-zeros 7 (row_sums y) (length-sums y))
+sums-append (b ∷ x) y = ap (xor_bits (low_bits 7 b)) (sums-append x y) ∙ sym (xor_bits_assoc (low_bits 7 b) (row_sums x) (row_sums y))
 
-sums_one : (b : ℕ) → column_sums (b ∷ []) ≡ low_bits 7 b
-unfolding column_sums
+sums_one : (b : ℕ) → row_sums (b ∷ []) ≡ low_bits 7 b
+unfolding row_sums
 sums_one b = xor_bits_comm (low_bits 7 b) (zeros 7) ∙ xor_bits-zeros 7 (low_bits 7 b) (length-low_bits 7 b)
 
-sums-zero : (p : Parity) (c r : List ℕ) → length r ≡ 1 → bits_of r ≡ matrix_check p c → column_sums (c ++ r) ≡ zeros 7
+-- a byte whose eight bits are these seven and one more
+pub low_seven : (b : ℕ) (v : List Bool) (t : Bool) → length v ≡ 7 → low_bits 8 b ≡ v ++ t ∷ [] → low_bits 7 b ≡ v
+low_seven b v t l e =
+    let s = one_more_byte b in
+    (append_split (low_bits 7 b) v (s.0 ∷ []) (t ∷ []) (length-low_bits 7 b ∙ sym l) (sym s.1 ∙ e)).0
+
+pub sums-zero : (p : Parity) (c : List ℕ) (b : ℕ) → low_bits 8 b ≡ matrix_check p c → row_sums (c ++ b ∷ []) ≡ zeros 7
 unfolding matrix_check
-sums-zero p c [] l e = absurd (omega arith)
-sums-zero p c (b ∷ []) l e =
-    let t = one_more_byte b in
-    let q : low_bits 7 b ≡ column_sums c =
-    (append_split (low_bits 7 b) (column_sums c) (t.0 ∷ []) (xor (is_odd p) (parity (column_sums c)) ∷ [])
-    (length-low_bits 7 b ∙ sym (length-sums c))
-    (sym t.1 ∙ sym (bits_of_one b) ∙ e)).0 in
-    sums-append c (b ∷ []) ∙ ap (xor_bits (column_sums c)) (sums_one b ∙ q) ∙ xor_bits_self (column_sums c) ∙ ap zeros (length-sums c)
-sums-zero p c (b ∷ d ∷ r) l e = absurd (omega arith)
+sums-zero p c b e =
+    let q : low_bits 7 b ≡ row_sums c = low_seven b (row_sums c) (xor (is_odd p) (parity (row_sums c))) (length-sums c) e in
+    sums-append c (b ∷ []) ∙ ap (xor_bits (row_sums c)) (sums_one b ∙ q) ∙ xor_bits_self (row_sums c) ∙ ap zeros (length-sums c)
 
--- ---- its lines
+-- ---- what two lines of seven-bit characters hold in their checked bytes
 
-module _ (p : Parity) (line : List ℕ) (r : Found method.Matrix p line) where
-  abbrev checked : List ℕ
-  checked = counted r.marks line ++ check_bytes r.marks line
+abbrev pub checked_of : List Mark → List ℕ → List ℕ
+checked_of ks line = counted ks line ++ check_bytes ks line
 
-  checked-right : ParitiesRight p checked
-  checked-right =
-      let h = (all-passed method.Matrix p line r).parities refl in
+module _ (m : Method) (p : Parity) (line : List ℕ) (r : Found m p line) where
+  checked-right : is_seven m ≡ true → ParitiesRight p (checked_of r.marks line)
+  checked-right seven =
+      let h = (all-passed m p line r).parities seven in
       right-append p (counted r.marks line) (check_bytes r.marks line) (right-sift p is_counted r.marks line h)
       (right-drop p (length r.marks) line h)
 
-  checked_zero : Accepted method.Matrix p line → column_sums checked ≡ zeros 7
-  unfolding check_of
-  checked_zero acc =
-      sums-zero p (counted r.marks line) (check_bytes r.marks line)
-      (length-drop (length r.marks) line ∙ omega (arith, (all-passed method.Matrix p line r).closes, check_length_lem method.Matrix))
-      ((accepted_right method.Matrix p line r).0 acc)
+  pub length-checked_of : length (checked_bits m p line) ≡ 8 * length (checked_of r.marks line)
+  length-checked_of = ap length (checked_bits_lem m p line r) ∙ length-bits_of (checked_of r.marks line)
 
-  checked-length : length (checked_bits method.Matrix p line) ≡ 8 * length checked
-  checked-length = ap length (checked_bits_lem method.Matrix p line r) ∙ length-bits_of checked
+pub record TwoChecked (m : Method) (p : Parity) (A B : List ℕ) (x y : List ℕ) : Type 0 where
+  pub bits-x : checked_bits m p A ≡ bits_of x
+  pub bits-y : checked_bits m p B ≡ bits_of y
+  pub size : length x ≡ length y
+  pub pairs : EqualParities x y
+  pub unequal : bits_of x ≡ bits_of y → ⊥
+  pub distance-checked : distance (blocks m p) A B ≡ distance_of x y
+
+pub two_checked : (m : Method) → is_seven m ≡ true → (p : Parity) (A B : List ℕ) → TwoAccepted (blocks m p) A B → (o : OneFraming m p A B)
+    → TwoChecked m p A B (checked_of o.a.marks A) (checked_of o.b.marks B)
+two_checked m seven p A B t o =
+    let x = checked_of o.a.marks A in
+    let y = checked_of o.b.marks B in
+    let s = t.same_framing in
+    let ex : checked_bits m p A ≡ bits_of x = checked_bits_lem m p A o.a in
+    let ey : checked_bits m p B ≡ bits_of y = checked_bits_lem m p B o.b in
+    let size : length x ≡ length y =
+    omega (arith, length-checked_of m p A o.a, length-checked_of m p B o.b, length-checked (blocks m p) (block_bridge m p) A B s) in
+    record {
+      bits-x = ex;
+      bits-y = ey;
+      size = size;
+      pairs = equal_parities p x y size (checked-right m p A o.a seven) (checked-right m p B o.b seven);
+      unequal = λ e. t.unequal (equal_where_checked (blocks m p) (block_bridge m p) A B s (ex ∙ e ∙ sym ey));
+      distance-checked =
+          (differ_where_checked (blocks m p) (block_bridge m p) A B s).1
+          ∙ length-differing (checked_bits m p A) (checked_bits m p B) ∙ ap₂ (λ a b. weight (xor_bits a b)) ex ey;
+    }
+
+-- ---- method 2
+
+one_character : (p : Parity) (c r : List ℕ) → length r ≡ 1 → bits_of r ≡ matrix_check p c → row_sums (c ++ r) ≡ zeros 7
+one_character p c [] l e = absurd (omega arith)
+one_character p c (b ∷ []) l e = sums-zero p c b (sym (bits_of_one b) ∙ e)
+one_character p c (b ∷ d ∷ r) l e = absurd (omega arith)
+
+checked_zero : (p : Parity) (line : List ℕ) (r : Found method.Matrix p line) → Accepted method.Matrix p line → row_sums (checked_of r.marks line) ≡ zeros 7
+unfolding check_of
+checked_zero p line r acc =
+    one_character p (counted r.marks line) (check_bytes r.marks line)
+    (length-drop (length r.marks) line ∙ omega (arith, (all-passed method.Matrix p line r).closes, check_length_lem method.Matrix))
+    ((accepted_right method.Matrix p line r).0 acc)
 
 module _ (p : Parity) (A B : List ℕ) (t : TwoAccepted (blocks method.Matrix p) A B) where
   o : OneFraming method.Matrix p A B
   o = one_framing method.Matrix p A B t.same_framing
 
-  abbrev x : List ℕ
-  x = checked p A o.a
+  two : TwoChecked method.Matrix p A B (checked_of o.a.marks A) (checked_of o.b.marks B)
+  two = two_checked method.Matrix refl p A B t o
 
-  abbrev y : List ℕ
-  y = checked p B o.b
-
-  bits-x : checked_bits method.Matrix p A ≡ bits_of x
-  bits-x = checked_bits_lem method.Matrix p A o.a
-
-  bits-y : checked_bits method.Matrix p B ≡ bits_of y
-  bits-y = checked_bits_lem method.Matrix p B o.b
-
-  size : length x ≡ length y
-  size =
-      omega (
-        arith,
-        checked-length p A o.a,
-        checked-length p B o.b,
-        length-checked (blocks method.Matrix p) (block_bridge method.Matrix p) A B t.same_framing,
-      )
-
-  pairs : EqualParities x y
-  pairs = equal_parities p x y size (checked-right p A o.a) (checked-right p B o.b)
-
-  sums : column_sums x ≡ column_sums y
+  sums : row_sums (checked_of o.a.marks A) ≡ row_sums (checked_of o.b.marks B)
   sums = checked_zero p A o.a t.accepted.0 ∙ sym (checked_zero p B o.b t.accepted.1)
 
-  unequal : bits_of x ≡ bits_of y → ⊥
-  unequal e =
-      t.unequal
-      (equal_where_checked (blocks method.Matrix p) (block_bridge method.Matrix p) A B t.same_framing (bits-x ∙ e ∙ sym bits-y))
-
-  distance-checked : distance (blocks method.Matrix p) A B ≡ distance_of x y
-  distance-checked =
-      (differ_where_checked (blocks method.Matrix p) (block_bridge method.Matrix p) A B t.same_framing).1
-      ∙ length-differing (checked_bits method.Matrix p A) (checked_bits method.Matrix p B) ∙ ap₂ (λ a b. weight (xor_bits a b)) bits-x bits-y
-
-  four : 4 ≤ distance_of x y
-  four = at_least_four pairs sums unequal
+  four : 4 ≤ distance_of (checked_of o.a.marks A) (checked_of o.b.marks B)
+  four = at_least_four two.pairs sums two.unequal
 
 pub distance_matrix : (p : Parity) → AtLeast 4 (blocks method.Matrix p)
-distance_matrix p A B t = omega (arith, distance-checked p A B t, four p A B t)
+distance_matrix p A B t = omega (arith, (two p A B t).distance-checked, four p A B t)
 
 pub burst_matrix : (p : Parity) → NoBurst 9 (blocks method.Matrix p)
 burst_matrix p A B t b h u =
-    omega (arith, four p A B t, at_most_two (pairs p A B t) (size p A B t) (sums p A B t) b h (rw (bits-x p A B t, bits-y p A B t) at u))
+    let w = two p A B t in
+    omega (arith, four p A B t, at_most_two w.pairs w.size (sums p A B t) b h (rw (w.bits-x, w.bits-y) at u))

@@ -22,7 +22,7 @@ use Rattle.block.specs.Characters.{is_seven, character, parity_right, sent}
 use Rattle.block.specs.Walk.{Stop, ended, refused, Walked, ahead, halt, cut, in_start, judge, onward, walk}
 use Rattle.block.specs.Marks.{counted, check_bytes}
 use Rattle.block.specs.Check.{check_of, check_length}
-use Rattle.block.specs.Read.{Framed, found, unframed, ask, ask_parities, ask_end, ask_walk, framed, Parts, parts_of, output_length, ask_check, read_block}
+use Rattle.block.specs.Read.{Framed, found, unframed, ask, ask_parities, ask_end, ask_walk, framed, Parts, parts_of, output_length, first_asked, then_asked, ask_check, read_block}
 use Rattle.block.specs.Limits.{counted_limit, line_limit}
 use Rattle.block.proofs.Start.{syn_ahead}
 use Rattle.guarantees.specs.LeadingFill.{moved_value, moved_answer}
@@ -138,19 +138,22 @@ unfolding sent
 either_moved true p line next = rw (right-character p SYN) (parities_moved p line 0 next)
 either_moved false p line next = refl
 
--- ---- 18 and 19
+-- ---- 18, 54 and 19
 
-answer-moved : (right fits : Bool) (b : Parts) → answer right fits b ≡ moved_answer 1 (answer right fits b)
-answer-moved true true b = refl
-answer-moved true false b = refl
-answer-moved false fits b = refl
+answer-moved : (first second fits : Bool) (b : Parts) → answer first second fits b ≡ moved_answer 1 (answer first second fits b)
+answer-moved true true true b = refl
+answer-moved true true false b = refl
+answer-moved true false fits b = refl
+answer-moved false second fits b = refl
 
 check-moved : (m : Method) (p : Parity) (b : ℕ) (line : List ℕ) (room : ℕ) (w : Framed)
     → ask_check m p (b ∷ line) room (moved_framed w) ≡ moved_answer 1 (ask_check m p line room w)
 check-moved m p b line room (unframed n v) = refl
 check-moved m p b line room (found ks f e) =
     let parts = parts_of m line ks f e in
-    answer-moved (same (bits_of (check_bytes ks line)) (check_of m p (counted ks line))) (leb (output_length parts) room) parts
+    let received = bits_of (check_bytes ks line) in
+    let computed = check_of m p (counted ks line) in
+    answer-moved (same (first_asked m received) (first_asked m computed)) (same (then_asked m received) (then_asked m computed)) (leb (output_length parts) room) parts
 
 -- ---- the line
 

@@ -8,12 +8,12 @@ use lib.Dec.{leb}
 use borrow.Author.Tests.{le-leb}
 use Rattle.bits.specs.Strings.{same}
 use Rattle.bits.specs.Bytes.{bits_of}
-use Rattle.bits.proofs.Strings.{same_sound}
 use Rattle.block.specs.declared.Method.{Method}
 use Rattle.block.specs.declared.Parity.{Parity}
 use Rattle.block.specs.Marks.{counted, check_bytes}
 use Rattle.block.specs.Check.{check_of}
-use Rattle.block.specs.Read.{Framed, found, unframed, framed, Parts, parts_of, output_length, taken, ask_check, read_block}
+use Rattle.block.specs.Read.{Framed, found, unframed, framed, Parts, parts_of, output_length, taken, first_asked, then_asked, ask_check, read_block}
+use Rattle.block.proofs.Asked.{asked_both}
 use Rattle.guarantees.specs.Second.{AcceptedIsTaken}
 use Rattle.guarantees.proofs.Blocks.Numbers.{answer}
 use Rattle.guarantees.proofs.Blocks.Framing.{CheckRight, Found, accepted_found, parts, right_answer, accepted_right}
@@ -23,10 +23,11 @@ pub record Taken (m : Method) (p : Parity) (line : List ℕ) (b : Parts) : Type 
   pub check-right : CheckRight m p framing.marks line
   pub parts : parts_of m line framing.marks framing.field framing.end ≡ b
 
-taken_only : (right fits : Bool) (a : Parts) {b : Parts} → answer right fits a ≡ taken b → (right ≡ true) × (a ≡ b)
-taken_only true true a h = (refl, cc)
-taken_only true false a h = absurd (let z : ◌≡◌ {A = ℕ} 0 1 = cc in omega arith)
-taken_only false fits a h = absurd (let z : ◌≡◌ {A = ℕ} 0 1 = cc in omega arith)
+taken_only : (first second fits : Bool) (a : Parts) {b : Parts} → answer first second fits a ≡ taken b → (first ≡ true) × (second ≡ true) × (a ≡ b)
+taken_only true true true a h = (refl, refl, cc)
+taken_only true true false a h = absurd (let z : ◌≡◌ {A = ℕ} 0 1 = cc in omega arith)
+taken_only true false fits a h = absurd (let z : ◌≡◌ {A = ℕ} 0 1 = cc in omega arith)
+taken_only false second fits a h = absurd (let z : ◌≡◌ {A = ℕ} 0 1 = cc in omega arith)
 
 pub taken_passed : (m : Method) (p : Parity) (line : List ℕ) (room : ℕ) {b : Parts} → read_block m p line room ≡ taken b → Taken m p line b
 unfolding read_block
@@ -36,11 +37,15 @@ taken_passed m p line room {b} h = go (framed m p line) refl h
     go (unframed n v) q h = absurd (let z : ◌≡◌ {A = ℕ} 0 1 = cc in omega arith)
     go (found ks f e) q h =
         let a = parts_of m line ks f e in
-        let t = taken_only (same (bits_of (check_bytes ks line)) (check_of m p (counted ks line))) (leb (output_length a) room) a h in
+        let received = bits_of (check_bytes ks line) in
+        let computed = check_of m p (counted ks line) in
+        let t =
+        taken_only (same (first_asked m received) (first_asked m computed)) (same (then_asked m received) (then_asked m computed))
+        (leb (output_length a) room) a h in
         record {
           framing = record { marks = ks; field = f; end = e; is_found = q };
-          check-right = same_sound _ _ (rw t.0 tt);
-          parts = t.1;
+          check-right = asked_both m received computed t.0 t.1;
+          parts = t.2;
         }
 
 pub accepted_is_taken : AcceptedIsTaken
@@ -48,4 +53,4 @@ accepted_is_taken m p line acc =
     let r = accepted_found m p line acc in
     let right = (accepted_right m p line r).0 acc in
     let b = parts m p line r in
-    (b, λ room h. right_answer m p line r right room ∙ ap (λ fits. answer true fits b) (le-leb (output_length b) room h))
+    (b, λ room h. right_answer m p line r right room ∙ ap (λ fits. answer true true fits b) (le-leb (output_length b) room h))

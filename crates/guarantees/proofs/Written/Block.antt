@@ -7,7 +7,6 @@ use mathlib.Core.List.{List, ◌++◌, map}
 use lib.ListN.{length, length-append}
 use borrow.Author.Tests.{le-leb}
 use Rattle.bits.specs.Bytes.{bits_of, pack}
-use Rattle.bits.proofs.Strings.{same_self}
 use Rattle.block.specs.declared.Method.{Method}
 use Rattle.block.specs.declared.Parity.{Parity}
 use Rattle.block.specs.declared.Shape.{Shape}
@@ -19,9 +18,10 @@ use Rattle.block.specs.Characters.{is_seven, character, sent}
 use Rattle.block.specs.Walk.{walk, ended}
 use Rattle.block.specs.Marks.{is_header, is_text, is_counted, sift, counted, check_bytes}
 use Rattle.block.specs.Check.{check_of, check_length}
-use Rattle.block.specs.Read.{Framed, found, framed, ask_parities, ask_end, Parts, parts_of, output_length, taken, ask_check, read_block}
+use Rattle.block.specs.Read.{Framed, found, framed, ask_parities, ask_end, Parts, parts_of, output_length, taken, ask_room, ask_check, read_block}
 use Rattle.block.specs.Write.{counted_bytes, counted_length, line_of}
 use Rattle.block.specs.Limits.{counted_limit, line_limit}
+use Rattle.block.proofs.Asked.{ask_equal}
 use Rattle.block.proofs.CheckLaws.{check_short, length-check_of}
 use Rattle.guarantees.specs.Second.{parts_written, WrittenReadsBack}
 use Rattle.guarantees.proofs.Writing.{Allowed, passed}
@@ -31,7 +31,7 @@ use Rattle.guarantees.proofs.Written.Parts.{pick, header_picked, text_picked, co
 use Rattle.guarantees.proofs.Written.Parities.{written_parities}
 use Rattle.guarantees.proofs.Written.Lengths.{check-back, marks_short, length-counted}
 
--- ---- a line that passes the questions up to 18
+-- ---- a line that passes the questions up to 18, and 54
 
 record PassesReading (m : Method) (p : Parity) (line : List ℕ) (ks : List Mark) (f : Field) (e : EndSign) : Type 0 where
   short : length line ≤ line_limit
@@ -55,7 +55,7 @@ module _ {m : Method} {p : Parity} {line : List ℕ} {ks : List Mark} {f : Field
   unfolding read_block
   line_taken b space q fits =
       let l : output_length (parts_of m line ks f e) ≤ space = omega (arith, ap output_length q) in
-      ap (ask_check m p line space) framed_found ∙ rw (h.check-right, same_self (check_of m p (counted ks line)), le-leb _ _ l) (ap taken q)
+      ap (ask_check m p line space) framed_found ∙ ask_equal m _ _ (ask_room (parts_of m line ks f e) space) h.check-right ∙ rw (le-leb _ _ l) (ap taken q)
 
 -- ---- the written line passes them
 

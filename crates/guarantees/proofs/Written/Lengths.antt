@@ -8,7 +8,6 @@ use lib.Dec.{eqb}
 use lib.ListN.{length, length-append, length-map}
 use Rattle.bits.specs.Strings.{zeros}
 use Rattle.bits.specs.Bytes.{bits_of, bytes_for, pack}
-use Rattle.bits.proofs.Bytes.{length-low_bits}
 use Rattle.bits.proofs.Packing.{bits_of-pack}
 use Rattle.cyclic.specs.Check.{Parameters, check_bits, method3, method4}
 use Rattle.cyclic.specs.Laws.{OfWidth}
@@ -21,11 +20,10 @@ use Rattle.block.specs.declared.Shape.{Shape}
 use Rattle.block.specs.declared.Shape.TheVariants as shape
 use Rattle.block.specs.declared.EndSign.{EndSign}
 use Rattle.block.specs.Signs.{DLE}
-use Rattle.block.specs.Characters.{with_parity}
-use Rattle.block.specs.Check.{check_of, xor_all}
+use Rattle.block.specs.Check.{check_of}
 use Rattle.block.specs.Write.{is_clear, start_signs, counted_bytes, counted_length}
 use Rattle.block.specs.Limits.{counted_limit}
-use Rattle.block.proofs.CheckLaws.{matrix_character, check_bytes}
+use Rattle.block.proofs.CheckLaws.{length_matrix, length_characters, check_bytes}
 use Rattle.guarantees.proofs.Written.Walk.{marks_of, marked_twice, marked_clear}
 use Rattle.guarantees.proofs.Written.Line.{marked_text, marked_line}
 
@@ -37,9 +35,10 @@ length_cyclic m o c = length-check m (o.start-length ∙ sym o.generator.width) 
 length-bits : (m : Method) (p : Parity) (bs : List ℕ) → length (check_of m p bs) ≡ 8 * check_bytes m
 unfolding check_of
 length-bits method.Parity p bs = refl
-length-bits method.Matrix p bs = ap length (matrix_character p bs) ∙ length-low_bits 8 (with_parity p (xor_all 0 bs))
+length-bits method.Matrix p bs = length_matrix p bs
 length-bits method.Cyclic p bs = length_cyclic method3 width_3 (bits_of bs)
 length-bits method.CyclicAlternative p bs = length_cyclic method4 width_4 (bits_of bs)
+length-bits method.Diagonal p bs = length_characters p bs
 
 pub check-back : (m : Method) (p : Parity) (bs : List ℕ) → bits_of (pack (check_of m p bs)) ≡ check_of m p bs
 check-back m p bs =

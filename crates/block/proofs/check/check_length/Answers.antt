@@ -15,3 +15,6 @@ returns-in-Cyclic c = rw c.in-Cyclic.is (sym (check_length_lem method.Cyclic))
 
 pub returns-in-CyclicAlternative : goal.returns-in-CyclicAlternative
 returns-in-CyclicAlternative c = rw c.in-CyclicAlternative.is (sym (check_length_lem method.CyclicAlternative))
+
+pub returns-in-Diagonal : goal.returns-in-Diagonal
+returns-in-Diagonal c = rw c.in-Diagonal.is (sym (check_length_lem method.Diagonal))

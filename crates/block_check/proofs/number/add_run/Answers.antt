@@ -22,3 +22,7 @@ returns-in-Cyclic c = rw c.in-Cyclic.is c.enter_run.ensures
 pub returns-in-CyclicAlternative : goal.returns-in-CyclicAlternative
 unfolding number_after
 returns-in-CyclicAlternative c = rw c.in-CyclicAlternative.is c.enter_run-in-CyclicAlternative.ensures
+
+pub returns-in-Diagonal : goal.returns-in-Diagonal
+unfolding number_after
+returns-in-Diagonal c = rw c.in-Diagonal.is c.add_both.ensures

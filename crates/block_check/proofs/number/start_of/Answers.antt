@@ -15,3 +15,6 @@ returns-in-Cyclic c = rw c.in-Cyclic.is (start-number c.new-cyclic.ensures (sear
 pub returns-in-CyclicAlternative : goal.returns-in-CyclicAlternative
 returns-in-CyclicAlternative c =
     rw c.in-CyclicAlternative.is (start-number c.new-cyclic-in-CyclicAlternative.ensures (search rules))
+
+pub returns-in-Diagonal : goal.returns-in-Diagonal
+returns-in-Diagonal c = rw c.in-Diagonal.is

@@ -1,11 +1,12 @@
 -- `check_from` meets its contract, method by method. Assumes nothing.
 use Rattle.std.proofs.Common.{◌≡◌, ◌%◌, [], ◌∷◌, sym, ap, ◌∙◌, arith, rules}
 use Rattle.bits.specs.Bytes.{pack, pack_into}
-use Rattle.bits.proofs.Packing.{pack-low_bits}
+use Rattle.bits.proofs.Packing.{pack-low_bits, pack-bits_of}
 use Rattle.block.specs.Characters.{with_parity}
 use Rattle.block.proofs.CheckLaws.{with_parity_lt}
 use Rattle.block_check.specs.Numbers.{check_from}
-use Rattle.block_check.proofs.NumberLaws.{with_parity-low}
+use Rattle.block_diagonals.specs.Sums.{characters}
+use Rattle.block_check.proofs.NumberLaws.{with_parity-low, characters_fit}
 use Rattle.block_check.proofs.sent.check_from.Goals as goal
 
 pub returns-in-Parity : goal.returns-in-Parity
@@ -31,3 +32,10 @@ unfolding check_from
 returns-in-CyclicAlternative c =
     rw c.in-CyclicAlternative.is
     (c.two-in-CyclicAlternative.ensures ∙ c.sent16-in-CyclicAlternative.ensures ∙ ap pack c.check-in-CyclicAlternative.ensures)
+
+pub returns-in-Diagonal : goal.returns-in-Diagonal
+unfolding check_from
+returns-in-Diagonal c =
+    let p = c.args.link.parity in
+    let n = c.args.number in
+    rw c.in-Diagonal.is (c.two-in-Diagonal.ensures ∙ c.characters.ensures ∙ sym (pack-bits_of (characters p n) (characters_fit p n)))

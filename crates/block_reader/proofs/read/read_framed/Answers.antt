@@ -1,5 +1,6 @@
--- `read_framed` meets its contract: questions 18 and 19, then header and text handed out. Assumes nothing.
+-- `read_framed` meets its contract: questions 18, 54 and 19, then header and text handed out. Assumes nothing.
 use native.Mathlib.Omega.{arith}
+use Rattle.std.proofs.lemmas.Result.{err_from_is_err_and}
 use Rattle.block_reader.proofs.ReadBlock.{ordered, lengths_small, counts_kept, wrong_check, output_short, is_taken}
 use Rattle.block_reader.proofs.read.read_framed.Goals as goal
 
@@ -13,10 +14,12 @@ invariant_of-framed-clause-counts_kept c =
     let a = c.args in
     counts_kept a.link.method a.link.parity a.line.now a.f c.requires
 
-pub returns-then-not-check_right : goal.returns-then-not-check_right
-returns-then-not-check_right c =
+pub returns-in_err-ask_check : goal.returns-in_err-ask_check
+returns-in_err-ask_check c =
     let a = c.args in
-    wrong_check a.link.method a.link.parity a.line.now a.f c.requires a.out.now c.check_right.ensures c.if-not-check_right.true
+    let p = err_from_is_err_and c.from_residual.result c.from_residual.ensures.1 in
+    rw (p.1, p.2)
+    (wrong_check a.link.method a.link.parity a.line.now a.f c.requires a.out.now c.ask_check.result c.ask_check.ensures c.in_err-ask_check.was)
 
 pub overflow_add-needed : goal.overflow_add-needed
 overflow_add-needed c =
@@ -27,9 +30,9 @@ overflow_add-needed c =
 pub returns-then-needed-out : goal.returns-then-needed-out
 returns-then-needed-out c =
     let a = c.args in
-    output_short a.link.method a.link.parity a.line.now a.f c.requires a.out.now c.check_right.ensures c.if-not-check_right.false c.if-needed-out.true
+    output_short a.link.method a.link.parity a.line.now a.f c.requires a.out.now c.ask_check.result c.ask_check.ensures c.in_ok-ask_check.was c.if-needed-out.true
 
 pub returns : goal.returns
 returns c =
     let a = c.args in
-    is_taken a.link.method a.link.parity a.line.now a.f c.requires a.out.now c.check_right.ensures c.if-not-check_right.false c.if-needed-out.false c.held-block.ensures c.hand_out.ensures
+    is_taken a.link.method a.link.parity a.line.now a.f c.requires a.out.now c.ask_check.result c.ask_check.ensures c.in_ok-ask_check.was c.if-needed-out.false c.held-block.ensures c.hand_out.ensures

@@ -1,4 +1,4 @@
--- The sums of all eight columns of bytes: the seven of the matrix and one more, and the remainder of their bits by x^8 + 1.
+-- The sums of all eight rows of bytes: the seven of the matrix and one more, and the remainder of their bits by x^8 + 1.
 -- Assumes nothing.
 use mathlib.Core.Path.{◌≡◌, refl, sym, ap, ap₂, ◌∙◌}
 use Prim.Native.Nat.{ℕ, ◌+◌, ◌/◌, ◌%◌}
@@ -15,7 +15,7 @@ use Rattle.division.specs.Division.{step, divide, remainder}
 use Rattle.division.specs.Generators.{coefficients}
 use Rattle.division.proofs.Linear.{divide-append, divide_linear}
 use Rattle.division.proofs.Zeros.{remainder-full}
-use Rattle.block.specs.Check.{column_sums}
+use Rattle.block.specs.Check.{row_sums}
 use Rattle.block.proofs.CheckLaws.{length-sums}
 
 -- of each of the eight bits, its sum modulo 2 over the bytes
@@ -35,14 +35,14 @@ pub one_more_byte : (b : ℕ) → OneMore (low_bits 7 b) (low_bits 8 b)
 unfolding low_bits
 one_more_byte b = (eqb (b / 128 % 2) 1, low_bits-append 7 1 b)
 
-pub one_more_sums : (x : List ℕ) → OneMore (column_sums x) (all_sums x)
-unfolding column_sums
+pub one_more_sums : (x : List ℕ) → OneMore (row_sums x) (all_sums x)
+unfolding row_sums
 one_more_sums [] = (false, refl)
 one_more_sums (b ∷ x) = go (one_more_byte b) (one_more_sums x)
   where
-    go : OneMore (low_bits 7 b) (low_bits 8 b) → OneMore (column_sums x) (all_sums x) → OneMore (column_sums (b ∷ x)) (all_sums (b ∷ x))
+    go : OneMore (low_bits 7 b) (low_bits 8 b) → OneMore (row_sums x) (all_sums x) → OneMore (row_sums (b ∷ x)) (all_sums (b ∷ x))
     go (s, e) (t, f) =
-        (xor s t, ap₂ xor_bits e f ∙ xor_bits-append (low_bits 7 b) (column_sums x) (s ∷ []) (t ∷ []) (length-low_bits 7 b ∙ sym (length-sums x)))
+        (xor s t, ap₂ xor_bits e f ∙ xor_bits-append (low_bits 7 b) (row_sums x) (s ∷ []) (t ∷ []) (length-low_bits 7 b ∙ sym (length-sums x)))
 
 -- ---- they are the remainder by x^8 + 1
 
