@@ -1,7 +1,7 @@
 //! Before anything is timed: on generated inputs, sound and damaged, each
 //! peer gives the library's numbers, values and output bytes.
 
-use crate::calls::{Calls, Form, LIBRARY};
+use crate::calls::{Calls, Form, Station, LIBRARY};
 use crate::frames;
 use crate::lines::{self, Fill};
 use crate::peer::bits;
@@ -101,6 +101,38 @@ impl Agreement<'_> {
         }
     }
 
+    /// Both calls on one record, mostly a right one.
+    fn sender_round(&mut self, random: &mut Random) {
+        let n = random.below(9) as u8;
+        let w = random.below(9) as u8;
+        let spoiled = random.once_in(4);
+        let station = Station {
+            next: random.below(if spoiled { 256 } else { 2 }) as u8,
+            stored: random.below(usize::from(w) + 1 + usize::from(spoiled)) as u8,
+            cell: random.below(usize::from(w).max(1) + usize::from(spoiled)) as u8,
+            lengths: std::array::from_fn(|_| random.below(4_096 + usize::from(spoiled)) as u16),
+        };
+        let room = (usize::from(w) * 4_096 + random.below(3)).saturating_sub(1);
+        let length = random.of(&[0, 16, 4_094, 4_095, 4_096]);
+        let (block, number) = (random.bytes(length), random.below(130) as u8);
+        let what = || format!("submit {n} {w} {station:?} {room} {length}");
+        self.same(&what, room + 18, &|calls, out, values| {
+            let (store, record) = out.split_at_mut(room);
+            let mut after = station;
+            let refusal = calls.submit((n, w), &mut after, store, &block, &mut values[0]);
+            record.copy_from_slice(&bytes_of(&after));
+            refusal
+        });
+        let what = || format!("acknowledge {n} {w} {station:?} {room} {number}");
+        self.same(&what, room + 18, &|calls, out, values| {
+            let (store, record) = out.split_at_mut(room);
+            let mut after = station;
+            let refusal = calls.acknowledge((n, w), &mut after, store, number, &mut values[0]);
+            record.copy_from_slice(&bytes_of(&after));
+            refusal
+        });
+    }
+
     fn block_round(&mut self, random: &mut Random, longest: usize) {
         let parts = lines::parts(random, longest);
         let (link, method, parity) = (parts.link, parts.link.method, u8::from(parts.link.odd));
@@ -178,6 +210,16 @@ impl Agreement<'_> {
     }
 }
 
+/// A record in 18 bytes.
+fn bytes_of(station: &Station) -> [u8; 18] {
+    let mut bytes = [0; 18];
+    bytes[..3].copy_from_slice(&[station.next, station.stored, station.cell]);
+    for (place, length) in station.lengths.iter().enumerate() {
+        bytes[4 + 2 * place..][..2].copy_from_slice(&length.to_le_bytes());
+    }
+    bytes
+}
+
 /// An output length: mostly enough, often near what is needed.
 fn room(random: &mut Random, longest: usize) -> usize {
     match random.below(3) {
@@ -205,6 +247,7 @@ pub fn run(peers: &[&'static Calls]) -> u64 {
         let long = random.once_in(LONG_ONCE_IN);
         agreement.block_round(&mut random, if long { 4_200 } else { 14 });
         agreement.frame_round(&mut random, if long { 4_200 } else { 12 });
+        agreement.sender_round(&mut random);
     }
     agreement.limits(&mut random);
     agreement.numbers();

@@ -13,6 +13,14 @@ type ReadFrame =
     unsafe extern "C" fn(u8, usize, *const u8, usize, *mut u8, usize, *mut usize) -> u32;
 type WriteFrame = unsafe extern "C" fn(u8, *const u8, usize, *mut u8, usize, *mut usize) -> u32;
 type Receive = unsafe extern "C" fn(u8, u8, u8, u8, *mut u8) -> u32;
+#[rustfmt::skip]
+type Submit = unsafe extern "C" fn(
+    u8, u8, *mut Station, *mut u8, usize, *const u8, usize, *mut usize,
+) -> u32;
+#[rustfmt::skip]
+type Acknowledge = unsafe extern "C" fn(
+    u8, u8, *mut Station, *const u8, usize, u8, *mut usize,
+) -> u32;
 type Check16 = unsafe extern "C" fn(*const u8, usize) -> u16;
 type Check32 = unsafe extern "C" fn(*const u8, usize) -> u32;
 
@@ -23,10 +31,22 @@ pub struct Calls {
     read_frame: ReadFrame,
     write_frame: WriteFrame,
     receive: Receive,
+    submit: Submit,
+    acknowledge: Acknowledge,
     check_3: Check16,
     check_4: Check16,
     check_5: Check16,
     check_6: Check32,
+}
+
+/// The record of a sending station.
+#[derive(Clone, Copy, Default, PartialEq, Eq, Debug)]
+#[repr(C)]
+pub struct Station {
+    pub next: u8,
+    pub stored: u8,
+    pub cell: u8,
+    pub lengths: [u16; 7],
 }
 
 /// What a block is written from, as codes and slices.
@@ -94,6 +114,33 @@ impl Calls {
         unsafe { (self.receive)(n, w, c, number, answer.as_mut_ptr()) }
     }
 
+    #[inline(always)]
+    pub fn submit(
+        &self,
+        (n, w): (u8, u8),
+        station: &mut Station,
+        store: &mut [u8],
+        block: &[u8],
+        value: &mut usize,
+    ) -> u32 {
+        let (room, store) = (store.len(), store.as_mut_ptr());
+        let (length, block) = (block.len(), block.as_ptr());
+        unsafe { (self.submit)(n, w, station, store, room, block, length, value) }
+    }
+
+    #[inline(always)]
+    pub fn acknowledge(
+        &self,
+        (n, w): (u8, u8),
+        station: &mut Station,
+        store: &[u8],
+        number: u8,
+        value: &mut usize,
+    ) -> u32 {
+        let (room, store) = (store.len(), store.as_ptr());
+        unsafe { (self.acknowledge)(n, w, station, store, room, number, value) }
+    }
+
     /// The check of a method 3 to 6.
     #[inline(always)]
     pub fn check(&self, method: u8, content: &[u8]) -> u32 {
@@ -109,10 +156,10 @@ impl Calls {
     }
 }
 
-/// Declares the nine functions of a linked library and gathers them.
+/// Declares the eleven functions of a linked library and gathers them.
 macro_rules! linked {
     ($calls:ident, $name:literal, $read_block:ident, $write_block:ident, $read_frame:ident, $write_frame:ident,
-     $receive:ident, $check_3:ident, $check_4:ident, $check_5:ident, $check_6:ident) => {
+     $receive:ident, $submit:ident, $acknowledge:ident, $check_3:ident, $check_4:ident, $check_5:ident, $check_6:ident) => {
         #[rustfmt::skip]
         extern "C" {
             fn $read_block(_: u8, _: u8, _: *const u8, _: usize, _: *mut u8, _: usize, _: *mut usize) -> u32;
@@ -121,6 +168,9 @@ macro_rules! linked {
             fn $read_frame(_: u8, _: usize, _: *const u8, _: usize, _: *mut u8, _: usize, _: *mut usize) -> u32;
             fn $write_frame(_: u8, _: *const u8, _: usize, _: *mut u8, _: usize, _: *mut usize) -> u32;
             fn $receive(_: u8, _: u8, _: u8, _: u8, _: *mut u8) -> u32;
+            fn $submit(_: u8, _: u8, _: *mut Station, _: *mut u8, _: usize,
+                _: *const u8, _: usize, _: *mut usize) -> u32;
+            fn $acknowledge(_: u8, _: u8, _: *mut Station, _: *const u8, _: usize, _: u8, _: *mut usize) -> u32;
             fn $check_3(_: *const u8, _: usize) -> u16;
             fn $check_4(_: *const u8, _: usize) -> u16;
             fn $check_5(_: *const u8, _: usize) -> u16;
@@ -133,6 +183,8 @@ macro_rules! linked {
             read_frame: $read_frame,
             write_frame: $write_frame,
             receive: $receive,
+            submit: $submit,
+            acknowledge: $acknowledge,
             check_3: $check_3,
             check_4: $check_4,
             check_5: $check_5,
@@ -143,10 +195,10 @@ macro_rules! linked {
 
 #[rustfmt::skip]
 linked!(LIBRARY, "library", corridor_read_block, corridor_write_block, corridor_read_frame, corridor_write_frame,
-    corridor_receive, corridor_check_3, corridor_check_4, corridor_check_5, corridor_check_6);
+    corridor_receive, corridor_submit, corridor_acknowledge, corridor_check_3, corridor_check_4, corridor_check_5, corridor_check_6);
 #[rustfmt::skip]
 linked!(PLAIN_C, "C", plain_read_block, plain_write_block, plain_read_frame, plain_write_frame,
-    plain_receive, plain_check_3, plain_check_4, plain_check_5, plain_check_6);
+    plain_receive, plain_submit, plain_acknowledge, plain_check_3, plain_check_4, plain_check_5, plain_check_6);
 
 pub static RUST: Calls = Calls {
     name: "Rust",
@@ -155,6 +207,8 @@ pub static RUST: Calls = Calls {
     read_frame: shell::read_frame,
     write_frame: shell::write_frame,
     receive: shell::receive,
+    submit: shell::submit,
+    acknowledge: shell::acknowledge,
     check_3: shell::check_3,
     check_4: shell::check_4,
     check_5: shell::check_3,
@@ -163,11 +217,28 @@ pub static RUST: Calls = Calls {
 
 extern "C" {
     fn plain_init();
+    fn copy_submit(
+        _: u8,
+        _: u8,
+        _: *mut Station,
+        _: *mut u8,
+        _: usize,
+        _: *const u8,
+        _: usize,
+        _: *mut usize,
+    ) -> u32;
     fn zlib_found() -> i32;
     fn zlib_check_6(content: *const u8, length: usize) -> u32;
     fn libdeflate_found() -> i32;
     fn libdeflate_check_6(content: *const u8, length: usize) -> u32;
 }
+
+/// The copy of a submission alone.
+pub static MEMCPY: Calls = Calls {
+    name: "memcpy",
+    submit: copy_submit,
+    ..PLAIN_C
+};
 
 /// Plain C with zlib's crc32 as its check of method 6.
 pub static ZLIB: Calls = Calls {

@@ -1,6 +1,7 @@
 //! The timed inputs: one case for each call, kind and length.
 
-use crate::calls::{Calls, Form, LIBRARY};
+use crate::calls::{Calls, Form, Station, LIBRARY};
+use crate::peer::sender::CELL;
 use crate::peer::signs::{Link, SYN};
 use crate::random::Random;
 use std::hint::black_box;
@@ -161,6 +162,33 @@ pub fn receive() -> Case {
     in_turn((0..64).map(told).collect(), move |calls, (c, number)| {
         black_box(calls.receive(3, 2, *c, *number, &mut answer));
         black_box(&answer);
+    })
+}
+
+/// Blocks modulo 8, window 7, each with no other stored: the ring goes round.
+pub fn submit(random: &mut Random, length: usize) -> Case {
+    let blocks = several(length, || random.bytes(length));
+    let (mut station, mut store, mut value) = (Station::default(), vec![0; 7 * CELL], 0);
+    in_turn(blocks, move |calls, block| {
+        station.stored = 0;
+        black_box(calls.submit((3, 7), &mut station, &mut store, block, &mut value));
+        black_box((&station, &store, &value));
+    })
+}
+
+/// Two of five stored blocks freed, modulus 8, window 7.
+pub fn acknowledge() -> Case {
+    let (store, mut value) = (vec![0; 7 * CELL], 0);
+    in_turn((0..8).collect(), move |calls, next: &u8| {
+        let (next, stored) = (*next, 5);
+        let mut station = Station {
+            next,
+            stored,
+            ..Station::default()
+        };
+        let number = (next + 4) % 8;
+        black_box(calls.acknowledge((3, 7), &mut station, &store, number, &mut value));
+        black_box((&station, &value));
     })
 }
 

@@ -20,7 +20,7 @@ mod random;
 mod shell;
 mod table;
 
-use calls::{Calls, Found, LIBDEFLATE, PLAIN_C, RUST, ZLIB};
+use calls::{Calls, Found, LIBDEFLATE, MEMCPY, PLAIN_C, RUST, ZLIB};
 use inputs::Case;
 use random::Random;
 use std::process::ExitCode;
@@ -28,6 +28,7 @@ use table::{Row, Table};
 
 const SHORT: [usize; 4] = [16, 64, 256, 4_096];
 const LONG: [usize; 5] = [16, 64, 256, 4_096, 65_536];
+const STORED: [usize; 2] = [16, 4_095];
 
 const MEANING: &str =
     "A ratio is the time of the proved call divided by the peer's: smaller is better. Times are the
@@ -35,6 +36,7 @@ least of many samples. C: gcc -O3; Rust: rustc -O; ns: nanoseconds of the proved
 
 static BOTH: [&Calls; 2] = [&PLAIN_C, &RUST];
 static CRC32: [&Calls; 2] = [&ZLIB, &LIBDEFLATE];
+static COPY: [&Calls; 1] = [&MEMCPY];
 
 /// The rows of a table whose name contains a word; every name contains "".
 struct Rows<'a> {
@@ -123,9 +125,25 @@ fn frames_of(random: &mut Random, word: &str) -> Table {
 fn numbers(word: &str) -> Table {
     let mut rows = Rows::of(word);
     rows.add("receive      modulus 8", &[1], |_| inputs::receive());
+    rows.add("acknowledge  window 7", &[1], |_| inputs::acknowledge());
     Table {
         title: "numbers, one a call",
         lengths: &[1],
+        rows: rows.rows,
+    }
+}
+
+fn submissions(random: &mut Random, word: &str) -> Table {
+    let mut rows = Rows::of(word);
+    rows.add("submit       window 7", &STORED, |length| {
+        inputs::submit(random, length)
+    });
+    rows.beside(&COPY, "submit       against memcpy", &STORED, |length| {
+        inputs::submit(random, length)
+    });
+    Table {
+        title: "submissions, by bytes of the block",
+        lengths: &STORED,
         rows: rows.rows,
     }
 }
@@ -166,6 +184,7 @@ fn main() -> ExitCode {
         blocks(random, &word),
         frames_of(random, &word),
         numbers(&word),
+        submissions(random, &word),
         checks(random, &word, found),
     ];
     tables.retain(|table| !table.rows.is_empty());

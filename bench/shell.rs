@@ -1,5 +1,6 @@
 //! The fast peer behind the C interface: codes in, numbers out.
 
+use crate::calls::Station;
 use crate::peer::signs::{Link, ENDS, METHODS, SHAPES};
 use crate::peer::Refusal;
 use crate::peer_fast::{self, Parts};
@@ -86,6 +87,28 @@ pub unsafe extern "C" fn receive(n: u8, w: u8, c: u8, number: u8, answer: *mut u
     };
     slice::from_raw_parts_mut(answer, 2).copy_from_slice(&values);
     refusal
+}
+
+/// Number and value of a sender's answer.
+unsafe fn sent(answer: Result<u8, Refusal>, value: *mut usize) -> u32 {
+    answered(answer.map(|told| [usize::from(told)]), value)
+}
+
+#[rustfmt::skip]
+pub unsafe extern "C" fn submit(
+    n: u8, w: u8, station: *mut Station, store: *mut u8, room: usize,
+    block: *const u8, length: usize, value: *mut usize,
+) -> u32 {
+    let store = slice::from_raw_parts_mut(store, room);
+    let block = slice::from_raw_parts(block, length);
+    sent(peer_fast::submit((n, w), &mut *station, store, block), value)
+}
+
+#[rustfmt::skip]
+pub unsafe extern "C" fn acknowledge(
+    n: u8, w: u8, station: *mut Station, _: *const u8, room: usize, number: u8, value: *mut usize,
+) -> u32 {
+    sent(peer_fast::acknowledge((n, w), &mut *station, room, number), value)
 }
 
 pub unsafe extern "C" fn check_3(content: *const u8, length: usize) -> u16 {

@@ -2,7 +2,8 @@
  * corridor.h - blocks, frames and their checks by GOST 28082-89.
  *
  * The library allocates nothing, keeps no state and calls nothing back: each
- * call works on what the caller lends it and may run in any thread.
+ * call works on what the caller lends it and may run in any thread, as long as
+ * no other call has the same record or output at that time.
  *
  * ARGUMENTS
  *   A slice is a pointer and its length in bytes. The pointer is valid for
@@ -72,6 +73,8 @@ extern "C" {
 #define CORRIDOR_LONGEST_COUNT 4096       /* counted bytes of a block */
 #define CORRIDOR_LONGEST_CONTENT_16 4096  /* content bytes, method 5 */
 #define CORRIDOR_LONGEST_CONTENT_32 65536 /* content bytes, method 6 */
+#define CORRIDOR_CELL 4096                /* bytes of a cell of a store */
+#define CORRIDOR_LONGEST_STORED 4095      /* bytes of a block in a store */
 
 /*
  * Reads one block.
@@ -219,6 +222,63 @@ uint32_t corridor_write_frame(uint8_t method,
  */
 uint32_t corridor_receive(uint8_t n, uint8_t w, uint8_t c, uint8_t number,
                           uint8_t answer[2]);
+
+/*
+ * The record of a sending station. The line driver keeps it, sets it to all
+ * zeros for a fresh station, lends it to every call and never looks inside.
+ * The blocks themselves stand in a store, which the driver keeps too: w cells
+ * of CORRIDOR_CELL bytes. Between two calls neither is altered, and n and w
+ * stay what they were.
+ */
+typedef struct corridor_station {
+    uint8_t next;
+    uint8_t stored;
+    uint8_t cell;
+    uint16_t lengths[7];
+} corridor_station;
+
+/*
+ * Submits one block: its bytes are copied into the store and it takes the next
+ * number, modulus 2^n, from 0 on a fresh station.
+ *
+ *   n            1 to 7
+ *   w            1 to 7 and below the modulus: the most blocks that are kept
+ *   station      the record
+ *   store        w * CORRIDOR_CELL bytes; more are left alone
+ *   block        at most CORRIDOR_LONGEST_STORED bytes
+ *
+ * Returns 0:     *value is the block's number
+ * Otherwise *value is the value named here (else 0), and record and store are
+ * as they were:
+ *   41  n is not from 1 to 7
+ *   51  w is not from 1 to 7 or not below the modulus, or the record is none
+ *       of this n and w: more than w blocks stored, or a number, a cell or a
+ *       length out of range
+ *    6  the store is too short; bytes needed
+ *   57  the block is too long; asked before 55
+ *   55  w blocks are stored already
+ */
+uint32_t corridor_submit(uint8_t n, uint8_t w, corridor_station *station,
+                         uint8_t *store, size_t store_length,
+                         const uint8_t *block, size_t block_length,
+                         size_t *value);
+
+/*
+ * Acknowledges: the far station names the last block that it received. That
+ * block and all before it are freed.
+ *
+ *   n, w, station, store   as for corridor_submit
+ *   number       the named block's
+ *
+ * Returns 0:     *value is how many blocks were freed
+ * Otherwise *value is the value named here (else 0), and the record is as it
+ * was:
+ *   41, 51, 6  as for corridor_submit
+ *   56  number is not that of a stored block
+ */
+uint32_t corridor_acknowledge(uint8_t n, uint8_t w, corridor_station *station,
+                              const uint8_t *store, size_t store_length,
+                              uint8_t number, size_t *value);
 
 /*
  * The cyclic check of a content, for a method 3, 4, 5 or 6. Bit 0 of the

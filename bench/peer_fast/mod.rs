@@ -8,9 +8,11 @@ mod check;
 mod frame;
 mod grammar;
 mod number;
+mod sender;
 mod signs;
 
 pub use block::{read as read_block, write as write_block, Parts};
 pub use check::{check_3, check_4, check_6};
 pub use frame::{read as read_frame, write as write_frame};
 pub use number::receive;
+pub use sender::{acknowledge, submit};

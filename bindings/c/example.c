@@ -1,6 +1,6 @@
 /*
- * Writes a block, reads it back, writes and reads a frame and judges a
- * number. Every step is checked; the program ends with 1 where one fails.
+ * Writes a block, reads it back, writes and reads a frame, judges a number
+ * and keeps blocks until they are acknowledged. Every step is checked; the program ends with 1 where one fails.
  */
 #include "corridor.h"
 
@@ -107,6 +107,31 @@ static void numbers(void)
     printf("numbers: new, repeat, lost, refused 51\n");
 }
 
+/* Modulus 8, window 2: two blocks are kept, a third has to wait until one of
+ * them is acknowledged. */
+static void sender(void)
+{
+    static uint8_t store[2 * CORRIDOR_CELL];
+    const uint8_t list[] = {'7', 'B', ' ', '1', '2'};
+    corridor_station station = {0};
+    size_t value;
+
+    for (size_t number = 0; number < 2; number++) {
+        expect(corridor_submit(3, 2, &station, store, sizeof store, list,
+                               sizeof list, &value) == 0, "it is stored");
+        expect(value == number, "its number");
+    }
+    expect(memcmp(store + CORRIDOR_CELL, list, sizeof list) == 0, "its bytes");
+    expect(corridor_submit(3, 2, &station, store, sizeof store, list,
+                           sizeof list, &value) == 55, "two are kept");
+    expect(corridor_acknowledge(3, 2, &station, store, sizeof store, 0,
+                                &value) == 0 && value == 1, "one is freed");
+    expect(corridor_submit(3, 2, &station, store, sizeof store, list,
+                           sizeof list, &value) == 0, "there is room");
+    expect(value == 2, "the next number");
+    printf("sender: 0, 1, refused 55, 1 freed, 2\n");
+}
+
 int main(void)
 {
     const uint8_t digits[] = {'1', '2', '3', '4', '5', '6', '7', '8', '9'};
@@ -114,6 +139,7 @@ int main(void)
     block();
     frame();
     numbers();
+    sender();
     expect(corridor_check_3(digits, sizeof digits) == 0x906E, "check 3");
     expect(corridor_check_6(digits, sizeof digits) == 0xCBF43926, "check 6");
     return failures == 0 ? 0 : 1;

@@ -1,6 +1,6 @@
 //! Safe Rust calls over the C interface of the corridor library: blocks
-//! (methods 1 to 4 and 7), frames (methods 5 and 6), the number check and the
-//! cyclic checks of GOST 28082-89.
+//! (methods 1 to 4 and 7), frames (methods 5 and 6), the number check, the
+//! sender and the cyclic checks of GOST 28082-89.
 //!
 //! The calls allocate nothing. Every call finishes with a full result or with
 //! a [`Refusal`]; after a refusal the lent output holds what it held before,
@@ -205,6 +205,48 @@ pub fn receive(n: u8, window: u8, awaited: u8, received: u8) -> Result<(Arrival,
     Ok((arrival, answer[1]))
 }
 
+/// Bytes of a cell of a sender's store; the longest block has one less.
+pub const CELL: usize = 4_096;
+
+/// The record of a sending station. It stays with the line driver, which gives
+/// every call the same record and the same store, altered by the calls alone.
+#[derive(Clone, Copy, Default, PartialEq, Eq, Debug)]
+pub struct Station(codes::Station);
+
+impl Station {
+    /// A station that has sent nothing.
+    pub fn fresh() -> Station {
+        Station::default()
+    }
+}
+
+/// Takes a block into the store, which has `window` cells of [`CELL`] bytes,
+/// and gives its number, modulus 2^n. After a refusal record and store are as
+/// they were.
+pub fn submit(
+    (n, window): (u8, u8),
+    station: &mut Station,
+    store: &mut [u8],
+    block: &[u8],
+) -> Result<u8, Refusal> {
+    let mut value = 0;
+    let number = codes::submit(n, window, &mut station.0, store, block, &mut value);
+    value_of(number, value).map(|value| value as u8)
+}
+
+/// The far station names the last block that it received: that one and all
+/// before it are freed. Gives how many.
+pub fn acknowledge(
+    (n, window): (u8, u8),
+    station: &mut Station,
+    store: &[u8],
+    named: u8,
+) -> Result<u8, Refusal> {
+    let mut value = 0;
+    let number = codes::acknowledge(n, window, &mut station.0, store, named, &mut value);
+    value_of(number, value).map(|value| value as u8)
+}
+
 /// The check of method 3; bit 0 is its highest power, the first bit sent.
 pub fn check_3(content: &[u8]) -> u16 {
     // SAFETY: pointer and length are those of one slice, which is only read.
@@ -328,10 +370,70 @@ pub mod codes {
         // SAFETY: `answer` is lent for writing and holds two bytes.
         unsafe { interface::corridor_receive(n, w, c, number, answer.as_mut_ptr()) }
     }
+
+    /// `corridor_station`
+    #[derive(Clone, Copy, Default, PartialEq, Eq, Debug)]
+    #[repr(C)]
+    pub struct Station {
+        pub next: u8,
+        pub stored: u8,
+        pub cell: u8,
+        pub lengths: [u16; 7],
+    }
+
+    /// `corridor_submit`
+    pub fn submit(
+        n: u8,
+        w: u8,
+        station: &mut Station,
+        store: &mut [u8],
+        block: &[u8],
+        value: &mut usize,
+    ) -> u32 {
+        let (room, store) = (store.len(), store.as_mut_ptr());
+        // SAFETY: as in `read_block`; the record is lent for writing.
+        unsafe {
+            interface::corridor_submit(
+                n,
+                w,
+                station,
+                store,
+                room,
+                block.as_ptr(),
+                block.len(),
+                value,
+            )
+        }
+    }
+
+    /// `corridor_acknowledge`
+    pub fn acknowledge(
+        n: u8,
+        w: u8,
+        station: &mut Station,
+        store: &[u8],
+        number: u8,
+        value: &mut usize,
+    ) -> u32 {
+        // SAFETY: as in `submit`; the store is only read.
+        unsafe {
+            interface::corridor_acknowledge(
+                n,
+                w,
+                station,
+                store.as_ptr(),
+                store.len(),
+                number,
+                value,
+            )
+        }
+    }
 }
 
 /// The C interface as `include/corridor.h` declares it.
 mod interface {
+    use super::codes::Station;
+
     extern "C" {
         pub fn corridor_read_block(
             method: u8,
@@ -373,6 +475,25 @@ mod interface {
             value: *mut usize,
         ) -> u32;
         pub fn corridor_receive(n: u8, w: u8, c: u8, number: u8, answer: *mut u8) -> u32;
+        pub fn corridor_submit(
+            n: u8,
+            w: u8,
+            station: *mut Station,
+            store: *mut u8,
+            store_length: usize,
+            block: *const u8,
+            block_length: usize,
+            value: *mut usize,
+        ) -> u32;
+        pub fn corridor_acknowledge(
+            n: u8,
+            w: u8,
+            station: *mut Station,
+            store: *const u8,
+            store_length: usize,
+            number: u8,
+            value: *mut usize,
+        ) -> u32;
         pub fn corridor_check_3(content: *const u8, length: usize) -> u16;
         pub fn corridor_check_4(content: *const u8, length: usize) -> u16;
         pub fn corridor_check_5(content: *const u8, length: usize) -> u16;

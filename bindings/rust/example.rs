@@ -1,9 +1,10 @@
-//! Writes a block, reads it back, sends a frame over and judges a number.
+//! Writes a block, reads it back, sends a frame over, judges a number and
+//! keeps blocks until they are acknowledged.
 
 #[allow(dead_code)]
 mod corridor;
 
-use corridor::{Arrival, BlockMethod, EndSign, FrameMethod, Parity, Refusal, Shape};
+use corridor::{Arrival, BlockMethod, EndSign, FrameMethod, Parity, Refusal, Shape, Station, CELL};
 
 fn main() {
     if let Err(refusal) = run() {
@@ -19,6 +20,7 @@ fn run() -> Result<(), Refusal> {
     let (arrival, awaited) = corridor::receive(3, 2, 2, 2)?;
     assert_eq!((arrival, awaited), (Arrival::New, 3));
     println!("number 2: {arrival:?}, then {awaited} is awaited");
+    sender()?;
     println!("check of method 3: {:04X}", corridor::check_3(b"123456789"));
     Ok(())
 }
@@ -64,5 +66,20 @@ fn frame() -> Result<(), Refusal> {
     let length = corridor::read_frame(FrameMethod::Cyclic16, bits, &lent, &mut content)?;
     assert_eq!((length, content), (2, [0xFF, 0xFF]));
     println!("frame: {bits} bits, {length} content bytes");
+    Ok(())
+}
+
+/// Modulus 8, window 2: a third block waits until one is acknowledged.
+fn sender() -> Result<(), Refusal> {
+    let (link, mut station, mut store) = ((3, 2), Station::fresh(), [0; 2 * CELL]);
+    let first = corridor::submit(link, &mut station, &mut store, b"7B 12")?;
+    let second = corridor::submit(link, &mut station, &mut store, b"7C 14")?;
+    let waits = corridor::submit(link, &mut station, &mut store, b"8A 03");
+    let (number, value) = (55, 0);
+    assert_eq!(waits, Err(Refusal { number, value }));
+    let freed = corridor::acknowledge(link, &mut station, &store, first)?;
+    let third = corridor::submit(link, &mut station, &mut store, b"8A 03")?;
+    assert_eq!((first, second, freed, third), (0, 1, 1, 2));
+    println!("sender: {first}, {second}, {waits:?}, {freed} freed, {third}");
     Ok(())
 }

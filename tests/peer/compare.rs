@@ -23,6 +23,7 @@ mod lines;
 mod peer;
 mod random;
 mod rows;
+mod senders;
 mod small;
 mod tally;
 mod typed;
@@ -35,6 +36,9 @@ use std::time::Instant;
 /// Seed and rounds of the default run.
 const SEED: u64 = 28_082;
 const CASES: u64 = 1_000_000;
+
+/// Calls of the sender.
+const SENDER_CALLS: u64 = 3_000_000;
 
 fn main() -> ExitCode {
     let Some((seed, cases)) = arguments() else {
@@ -60,6 +64,9 @@ fn main() -> ExitCode {
     });
     stage("generated", tried, |judge| {
         generated::run(judge, &mut random, cases)
+    });
+    stage("histories of a sender", tried, |judge| {
+        senders::run(&mut judge.tally, &mut random, SENDER_CALLS)
     });
     judge.tally.print();
     let missing = judge.tally.missing();

@@ -8,14 +8,18 @@ pub enum Call {
     ReadFrame,
     WriteFrame,
     Receive,
+    Submit,
+    Acknowledge,
 }
 
-const CALLS: [(Call, &str, &[usize]); 5] = [
+const CALLS: [(Call, &str, &[usize]); 7] = [
     (Call::ReadBlock, "read a block", &[1, 2, 3, 4, 7]),
     (Call::WriteBlock, "write a block", &[1, 2, 3, 4, 7]),
     (Call::ReadFrame, "read a frame", &[5, 6]),
     (Call::WriteFrame, "write a frame", &[5, 6]),
     (Call::Receive, "judge a number", &[]),
+    (Call::Submit, "submit a block", &[]),
+    (Call::Acknowledge, "acknowledge", &[]),
 ];
 
 /// Every number that documents 01 and 02 give to a question of the call.
@@ -26,6 +30,8 @@ fn questions(call: Call) -> &'static [usize] {
         Call::ReadFrame => &[31, 32, 33, 34, 35, 36, 37, 38],
         Call::WriteFrame => &[21, 22, 23],
         Call::Receive => &[41, 51, 42, 43],
+        Call::Submit => &[41, 51, 6, 57, 55],
+        Call::Acknowledge => &[41, 51, 6, 56],
     }
 }
 

@@ -1,12 +1,15 @@
 -- What the C calls answer, by the rules of blocks, frames and numbers. Assumes nothing.
-use Rattle.std.specs.Prelude.{ℕ, List, [], ◌∷◌, replicate, Option, Some, None}
+use Rattle.std.specs.Prelude.{ℕ, List, [], ◌∷◌, length, replicate, Option, Some, None}
 use Rattle.bits.specs.Calls as rule
 use Rattle.block.specs.Answers as block
 use Rattle.frame.specs.Answers as frame
 use Rattle.number.specs.Number.{Outcome, receiving}
+use Rattle.sender.specs.declared.Station.{Station}
+use Rattle.sender.specs.Sender as sender
 use Rattle.answers.specs.declared.ValueNumbers.{ValueNumbers}
 use Rattle.answers.specs.declared.VerdictNumbers.{VerdictNumbers}
 use Rattle.answers.specs.Numbers.{read_numbers, written_numbers, frame_numbers, verdict_numbers}
+use Rattle.sender_answers.specs.Numbers.{sender_numbers}
 use Rattle.block.specs.declared.Link.{Link}
 use Rattle.frame.specs.declared.FrameMethod.{FrameMethod}
 use Rattle.codes.specs.declared.Format.{Format}
@@ -87,3 +90,29 @@ after_receiving o = received_by (verdict_numbers o.verdict) o.c
 -- of n, w, c and the received number
 abbrev pub receive_call : ℕ → ℕ → ℕ → ℕ → Call
 receive_call n w c number = after_receiving (receiving n w c number)
+
+-- ---- the sender
+
+-- the number that a call returns, its value, and record and store afterwards
+pub record StationCall : Type 0 where
+  pub number : ℕ
+  pub value : ℕ
+  pub station : Station
+  pub store : List ℕ
+
+abbrev pub station_called : ℕ → ℕ → Station → List ℕ → StationCall
+station_called number value station store = record { number = number; value = value; station = station; store = store }
+
+abbrev pub after_sending : sender.Outcome → List ℕ → StationCall
+after_sending o store = station_called (sender_numbers o.answer).number (sender_numbers o.answer).value o.station store
+
+abbrev pub after_submitting : rule.Call sender.Outcome → StationCall
+after_submitting c = after_sending c.answer c.output
+
+-- of n, w, the record, the store and the block
+abbrev pub submit_call : ℕ → ℕ → Station → List ℕ → List ℕ → StationCall
+submit_call n w station store block = after_submitting (sender.submit_call n w station store block)
+
+-- of n, w, the record, the store and the named number
+abbrev pub acknowledge_call : ℕ → ℕ → Station → List ℕ → ℕ → StationCall
+acknowledge_call n w station store number = after_sending (sender.acknowledging n w station (length store) number) store

@@ -5,7 +5,9 @@
 ghost use Rattle.std.specs.Prelude.{◌≡◌, [], ◌∷◌};
 ghost use Rattle.bits.specs.Bytes.{low_bits, bits_of};
 ghost use Rattle.cyclic.specs.Check.{check_bits, method3, method4, method5, method6};
-ghost use Rattle.corridor.specs.Calls.{called, read_block_call, write_block_call, read_frame_call, write_frame_call, receive_call};
+ghost use Rattle.corridor.specs.Calls.{called, read_block_call, write_block_call, read_frame_call, write_frame_call, receive_call, station_called, submit_call, acknowledge_call};
+
+use sender::Station;
 
 #[unsafe(no_mangle)]
 pub extern "C" fn corridor_check_3(content: &[u8]) -> u16
@@ -103,4 +105,32 @@ pub extern "C" fn corridor_receive(n: u8, w: u8, c: u8, number: u8, answer: &mut
     ensures { called result answer.new [] ≡ receive_call n w c number }
 {
     corridor::corridor_receive(n, w, c, number, &mut *answer)
+}
+
+#[unsafe(no_mangle)]
+pub extern "C" fn corridor_submit(
+    n: u8,
+    w: u8,
+    station: &mut Station,
+    store: &mut [u8],
+    block: &[u8],
+    value: &mut usize,
+) -> u32
+    ensures { station_called result value.new station.new store.new ≡ submit_call n w station.old store.old block.now }
+{
+    corridor::corridor_submit(n, w, &mut *station, &mut *store, block, &mut *value)
+}
+
+#[unsafe(no_mangle)]
+pub extern "C" fn corridor_acknowledge(
+    n: u8,
+    w: u8,
+    station: &mut Station,
+    store: &[u8],
+    number: u8,
+    value: &mut usize,
+) -> u32
+    ensures { station_called result value.new station.new store.now ≡ acknowledge_call n w station.old store.now number }
+{
+    corridor::corridor_acknowledge(n, w, &mut *station, store, number, &mut *value)
 }

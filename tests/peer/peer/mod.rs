@@ -13,6 +13,7 @@ pub mod division;
 pub mod frame;
 pub mod grammar;
 pub mod number;
+pub mod sender;
 pub mod signs;
 
 /// A question answered with "no": its number and the place or needed length

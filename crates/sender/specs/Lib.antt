@@ -1,0 +1,5 @@
+pub mod Ring
+pub mod Sender
+pub mod Answers
+pub mod Right
+pub mod History

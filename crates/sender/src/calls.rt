@@ -1,0 +1,83 @@
+// The calls: on a record by value, and on one that is lent.
+ghost use Rattle.std.specs.Prelude.{◌≡◌, length};
+ghost use Rattle.bits.specs.Calls.{called};
+ghost use Rattle.sender.specs.Sender as rule;
+ghost use Rattle.sender.specs.Answers.{told, outcome_of};
+
+use crate::questions::{CELL, ask_number, ask_submission};
+use crate::records::{with_block, with_latest};
+use crate::ring::submitted_after;
+use crate::{SenderRefusal, SenderResult, Station};
+
+// A refused call leaves the record.
+fn refused(station: Station, refusal: SenderRefusal) -> SenderResult
+    ensures { outcome_of result ≡ told (Err refusal) station }
+{
+    SenderResult {
+        answer: Err(refusal),
+        after: station,
+    }
+}
+
+// Copies a block into the next cell and answers its number.
+pub fn submit(n: u8, w: u8, station: Station, store: &mut [u8], block: &[u8]) -> SenderResult
+    ensures { called (outcome_of result) store.new ≡ rule.submit_call n w station store.old block.now }
+{
+    match ask_submission(n, w, station, store.len(), block.len()) {
+        Ok(()) => {
+            let start = station.cell as usize * CELL;
+            store[start..start + block.len()].copy_from_slice(block);
+            SenderResult {
+                answer: Ok(station.next),
+                after: with_block(n, w, station, block.len() as u16),
+            }
+        }
+        Err(refusal) => refused(station, refusal),
+    }
+}
+
+// Frees the named block and all before it, and answers how many.
+pub fn acknowledge(n: u8, w: u8, station: Station, store: &[u8], number: u8) -> SenderResult
+    ensures { outcome_of result ≡ rule.acknowledging n w station (length store.now) number }
+{
+    match ask_number(n, w, station, store.len(), number) {
+        Ok(()) => {
+            let left = submitted_after(n, station.next, number);
+            SenderResult {
+                answer: Ok(station.stored - left),
+                after: with_latest(station, left),
+            }
+        }
+        Err(refusal) => refused(station, refusal),
+    }
+}
+
+// `submit` on a record that stays with the line driver.
+pub fn submit_to(
+    n: u8,
+    w: u8,
+    station: &mut Station,
+    store: &mut [u8],
+    block: &[u8],
+) -> Result<u8, SenderRefusal>
+    ensures { called (told result station.new) store.new ≡ rule.submit_call n w station.old store.old block.now }
+{
+    let submitted = submit(n, w, *station, &mut *store, block);
+    *station = submitted.after;
+    submitted.answer
+}
+
+// `acknowledge` on a record that stays with the line driver.
+pub fn acknowledge_to(
+    n: u8,
+    w: u8,
+    station: &mut Station,
+    store: &[u8],
+    number: u8,
+) -> Result<u8, SenderRefusal>
+    ensures { told result station.new ≡ rule.acknowledging n w station.old (length store.now) number }
+{
+    let acknowledged = acknowledge(n, w, *station, store, number);
+    *station = acknowledged.after;
+    acknowledged.answer
+}
