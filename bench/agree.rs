@@ -6,7 +6,7 @@ use crate::frames;
 use crate::lines::{self, Fill};
 use crate::peer::bits;
 use crate::peer::block::Parts;
-use crate::peer::signs::{Link, Text, SHAPES, STX, SYN, US};
+use crate::peer::signs::{Code, Link, Text, SHAPES, STX, SYN, US};
 use crate::random::Random;
 
 /// Rounds of generated inputs; each has about a dozen calls a peer.
@@ -55,7 +55,7 @@ impl Agreement<'_> {
     fn read_block(&mut self, method: u8, parity: u8, line: &[u8], room: usize) {
         let what = || format!("read_block {method} {parity} {line:02X?}");
         self.same(&what, room, &|calls, out, values| {
-            calls.read_block(method, parity, line, out, values)
+            calls.read_block(method, parity, 0, line, out, values)
         });
     }
 
@@ -134,8 +134,9 @@ impl Agreement<'_> {
     }
 
     fn block_round(&mut self, random: &mut Random, longest: usize) {
-        let parts = lines::parts(random, longest);
-        let (link, method, parity) = (parts.link, parts.link.method, u8::from(parts.link.odd));
+        let link = lines::link(random, Code::Koi7);
+        let parts = lines::parts(random, link, longest);
+        let (method, parity) = (link.method, u8::from(link.odd));
         self.write_block(&form(&parts), room(random, longest));
         let fill = random.of(&[Fill::Nowhere, Fill::Somewhere, Fill::Everywhere]);
         let line = lines::line(random, &parts, fill);
@@ -175,7 +176,7 @@ impl Agreement<'_> {
         let shapes = [(1, 1), (2, 0), (3, 1), (3, 2), (4, 3), (4, 4), (7, 1)];
         for (counted, (method, shape)) in (4_093..=4_097).flat_map(|n| shapes.map(|pair| (n, pair)))
         {
-            let (link, shape) = (Link { method, odd: true }, SHAPES[shape]);
+            let (link, shape) = (Link::koi7(method, true), SHAPES[shape]);
             let part = vec![b'A'; counted];
             let (header, text) = if shape.text == Text::Absent {
                 (part, Vec::new())
@@ -194,10 +195,7 @@ impl Agreement<'_> {
             self.read_block(method, 1, &line, counted);
         }
         for length in 16_382..=16_385 {
-            let link = Link {
-                method: 3,
-                odd: false,
-            };
+            let link = Link::koi7(3, false);
             let line = lines::sealed(link, [&[STX][..], &vec![SYN; length - 4], &[US]].concat());
             self.read_block(3, 0, &line, 4);
         }
@@ -232,6 +230,7 @@ fn form(parts: &Parts) -> Form {
     Form {
         method: parts.link.method,
         parity: u8::from(parts.link.odd),
+        code: 0,
         shape: parts.shape.number() as u8,
         end_sign: parts.end_sign,
         header: parts.header.clone(),

@@ -3,10 +3,11 @@
 
 use crate::shell;
 
-type ReadBlock = unsafe extern "C" fn(u8, u8, *const u8, usize, *mut u8, usize, *mut usize) -> u32;
+type ReadBlock =
+    unsafe extern "C" fn(u8, u8, u8, *const u8, usize, *mut u8, usize, *mut usize) -> u32;
 #[rustfmt::skip]
 type WriteBlock = unsafe extern "C" fn(
-    u8, u8, u8, u8, *const u8, usize,
+    u8, u8, u8, u8, u8, *const u8, usize,
     *const u8, usize, *mut u8, usize, *mut usize,
 ) -> u32;
 type ReadFrame =
@@ -54,6 +55,7 @@ pub struct Station {
 pub struct Form {
     pub method: u8,
     pub parity: u8,
+    pub code: u8,
     pub shape: u8,
     pub end_sign: u8,
     pub header: Vec<u8>,
@@ -75,7 +77,7 @@ macro_rules! by_slices {
 }
 
 impl Calls {
-    by_slices! { read_block(method: u8, parity: u8; line) [usize; 5] }
+    by_slices! { read_block(method: u8, parity: u8, code: u8; line) [usize; 5] }
     by_slices! { read_frame(method: u8, bits: usize; lent) usize }
     by_slices! { write_frame(method: u8; content) usize }
 
@@ -84,6 +86,7 @@ impl Calls {
         let Form {
             method,
             parity,
+            code,
             shape,
             end_sign,
             header,
@@ -96,6 +99,7 @@ impl Calls {
             (self.write_block)(
                 *method,
                 *parity,
+                *code,
                 *shape,
                 *end_sign,
                 header,
@@ -162,8 +166,8 @@ macro_rules! linked {
      $receive:ident, $submit:ident, $acknowledge:ident, $check_3:ident, $check_4:ident, $check_5:ident, $check_6:ident) => {
         #[rustfmt::skip]
         extern "C" {
-            fn $read_block(_: u8, _: u8, _: *const u8, _: usize, _: *mut u8, _: usize, _: *mut usize) -> u32;
-            fn $write_block(_: u8, _: u8, _: u8, _: u8, _: *const u8, _: usize,
+            fn $read_block(_: u8, _: u8, _: u8, _: *const u8, _: usize, _: *mut u8, _: usize, _: *mut usize) -> u32;
+            fn $write_block(_: u8, _: u8, _: u8, _: u8, _: u8, _: *const u8, _: usize,
                 _: *const u8, _: usize, _: *mut u8, _: usize, _: *mut usize) -> u32;
             fn $read_frame(_: u8, _: usize, _: *const u8, _: usize, _: *mut u8, _: usize, _: *mut usize) -> u32;
             fn $write_frame(_: u8, _: *const u8, _: usize, _: *mut u8, _: usize, _: *mut usize) -> u32;
@@ -239,6 +243,32 @@ pub static MEMCPY: Calls = Calls {
     submit: copy_submit,
     ..PLAIN_C
 };
+
+/// The library's calls of blocks under KOI-7, whatever code is told.
+pub static KOI7: Calls = Calls {
+    name: "KOI-7",
+    read_block: koi7_read_block,
+    write_block: koi7_write_block,
+    ..LIBRARY
+};
+
+#[rustfmt::skip]
+unsafe extern "C" fn koi7_read_block(
+    method: u8, parity: u8, _: u8, line: *const u8, length: usize,
+    out: *mut u8, room: usize, values: *mut usize,
+) -> u32 {
+    corridor_read_block(method, parity, 0, line, length, out, room, values)
+}
+
+#[rustfmt::skip]
+unsafe extern "C" fn koi7_write_block(
+    method: u8, parity: u8, _: u8, shape: u8, end_sign: u8, header: *const u8, header_length: usize,
+    text: *const u8, length: usize, out: *mut u8, room: usize, value: *mut usize,
+) -> u32 {
+    corridor_write_block(
+        method, parity, 0, shape, end_sign, header, header_length, text, length, out, room, value,
+    )
+}
 
 /// Plain C with zlib's crc32 as its check of method 6.
 pub static ZLIB: Calls = Calls {

@@ -9,11 +9,13 @@ use std::hint::black_box;
 /// Makes one call again and again, as many times as told.
 pub type Case = Box<dyn FnMut(&Calls, u64)>;
 
-/// Text of a kind: characters that every method carries, or any bytes.
-fn text(random: &mut Random, method: u8, length: usize) -> Vec<u8> {
-    let character = |random: &mut Random| match method {
-        4 => random.byte(),
-        3 => 0x20 + random.below(0xE0) as u8,
+/// Text of a kind: characters that every method carries, or any bytes. Under
+/// DKOI all lie above its signs, and so above those of KOI-7.
+fn text(random: &mut Random, method: u8, code: u8, length: usize) -> Vec<u8> {
+    let character = |random: &mut Random| match (method, code) {
+        (_, 1) => 0x33 + random.below(0xCD) as u8,
+        (4, _) => random.byte(),
+        (3, _) => 0x20 + random.below(0xE0) as u8,
         _ => 0x20 + random.below(0x60) as u8,
     };
     (0..length).map(|_| character(random)).collect()
@@ -21,12 +23,13 @@ fn text(random: &mut Random, method: u8, length: usize) -> Vec<u8> {
 
 /// A block of so many text bytes, one less where they fill the block: the end
 /// sign is counted too. Method 4 carries clear text here, the others plain.
-fn form(random: &mut Random, method: u8, length: usize) -> Form {
+fn form(random: &mut Random, (method, code): (u8, u8), length: usize) -> Form {
     let shape = if method == 4 { 4 } else { 2 };
-    let text = text(random, method, length.min(4_095));
+    let text = text(random, method, code, length.min(4_095));
     Form {
         method,
         parity: 0,
+        code,
         shape,
         end_sign: 3,
         header: Vec::new(),
@@ -80,11 +83,17 @@ fn in_turn<T: 'static>(inputs: Vec<T>, mut call: impl FnMut(&Calls, &T) + 'stati
     })
 }
 
-pub fn read_block(random: &mut Random, method: u8, fill: bool, length: usize) -> Case {
+/// Blocks of a method under a code; only KOI-7 has lines with fill signs.
+pub fn read_block(
+    random: &mut Random,
+    (method, code): (u8, u8),
+    fill: bool,
+    length: usize,
+) -> Case {
     let lines = several(length, || {
-        let line = written(&form(random, method, length));
+        let line = written(&form(random, (method, code), length));
         if fill {
-            filled(&line, Link { method, odd: false }.sent(SYN))
+            filled(&line, Link::koi7(method, false).sent(SYN))
         } else {
             line
         }
@@ -92,18 +101,18 @@ pub fn read_block(random: &mut Random, method: u8, fill: bool, length: usize) ->
     let (mut out, mut answer) = (vec![0; length], [0; 5]);
     for line in &lines {
         assert_eq!(
-            LIBRARY.read_block(method, 0, line, &mut out, &mut answer),
+            LIBRARY.read_block(method, 0, code, line, &mut out, &mut answer),
             0
         );
     }
     in_turn(lines, move |calls, line| {
-        black_box(calls.read_block(method, 0, line, &mut out, &mut answer));
+        black_box(calls.read_block(method, 0, code, line, &mut out, &mut answer));
         black_box((&out, &answer));
     })
 }
 
-pub fn write_block(random: &mut Random, method: u8, length: usize) -> Case {
-    let forms = several(length, || form(random, method, length));
+pub fn write_block(random: &mut Random, kind: (u8, u8), length: usize) -> Case {
+    let forms = several(length, || form(random, kind, length));
     let (mut out, mut value) = (vec![0; 2 * length + 8], 0);
     in_turn(forms, move |calls, form| {
         black_box(calls.write_block(form, &mut out, &mut value));

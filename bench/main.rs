@@ -20,7 +20,7 @@ mod random;
 mod shell;
 mod table;
 
-use calls::{Calls, Found, LIBDEFLATE, MEMCPY, PLAIN_C, RUST, ZLIB};
+use calls::{Calls, Found, KOI7, LIBDEFLATE, MEMCPY, PLAIN_C, RUST, ZLIB};
 use inputs::Case;
 use random::Random;
 use std::process::ExitCode;
@@ -37,6 +37,7 @@ least of many samples. C: gcc -O3; Rust: rustc -O; ns: nanoseconds of the proved
 static BOTH: [&Calls; 2] = [&PLAIN_C, &RUST];
 static CRC32: [&Calls; 2] = [&ZLIB, &LIBDEFLATE];
 static COPY: [&Calls; 1] = [&MEMCPY];
+static UNDER_KOI7: [&Calls; 1] = [&KOI7];
 
 /// The rows of a table whose name contains a word; every name contains "".
 struct Rows<'a> {
@@ -83,14 +84,25 @@ fn blocks(random: &mut Random, word: &str) -> Table {
     let mut rows = Rows::of(word);
     for (method, fill, kind) in kinds {
         rows.add(&format!("read_block   {kind}"), &SHORT, |length| {
-            inputs::read_block(random, method, fill, length)
+            inputs::read_block(random, (method, 0), fill, length)
         });
     }
     for (method, _, kind) in kinds.into_iter().filter(|(_, fill, _)| !fill) {
         rows.add(&format!("write_block  {kind}"), &SHORT, |length| {
-            inputs::write_block(random, method, length)
+            inputs::write_block(random, (method, 0), length)
         });
     }
+    let name = "method 3, DKOI against KOI-7";
+    let (read, write) = (
+        format!("read_block   {name}"),
+        format!("write_block  {name}"),
+    );
+    rows.beside(&UNDER_KOI7, &read, &SHORT, |length| {
+        inputs::read_block(random, (3, 1), false, length)
+    });
+    rows.beside(&UNDER_KOI7, &write, &SHORT, |length| {
+        inputs::write_block(random, (3, 1), length)
+    });
     Table {
         title: "blocks, by bytes of text",
         lengths: &SHORT,

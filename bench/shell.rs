@@ -1,4 +1,5 @@
-//! The fast peer behind the C interface: codes in, numbers out.
+//! The fast peer behind the C interface: codes in, numbers out. KOI-7 is the
+//! one code of signs that it knows.
 
 use crate::calls::Station;
 use crate::peer::signs::{Link, ENDS, METHODS, SHAPES};
@@ -22,9 +23,9 @@ unsafe fn answered<const N: usize>(answer: Result<[usize; N], Refusal>, values: 
     }
 }
 
-fn link(method: u8, parity: u8) -> Option<Link> {
-    let odd = parity == 1;
-    (METHODS.contains(&method) && parity <= 1).then_some(Link { method, odd })
+fn link(method: u8, parity: u8, code: u8) -> Option<Link> {
+    let known = METHODS.contains(&method) && parity <= 1 && code == 0;
+    known.then_some(Link::koi7(method, parity == 1))
 }
 
 const UNKNOWN_CODE: Refusal = Refusal {
@@ -49,15 +50,15 @@ macro_rules! call {
     };
 }
 
-call! { read_block(method: u8, parity: u8; line[line_length]; out[room])
-    match link(method, parity) {
+call! { read_block(method: u8, parity: u8, code: u8; line[line_length]; out[room])
+    match link(method, parity, code) {
         Some(link) => peer_fast::read_block(link, line, out),
         None => Err(UNKNOWN_CODE),
     }
 }
 
-call! { write_block(method: u8, parity: u8, shape: u8, end_sign: u8; header[header_length], text[text_length]; out[room])
-    match (link(method, parity), SHAPES.get(usize::from(shape).wrapping_sub(1))) {
+call! { write_block(method: u8, parity: u8, code: u8, shape: u8, end_sign: u8; header[header_length], text[text_length]; out[room])
+    match (link(method, parity, code), SHAPES.get(usize::from(shape).wrapping_sub(1))) {
         (Some(link), Some(&shape)) if ENDS.contains(&end_sign) => {
             let parts = Parts { link, shape, end_sign, header, text };
             peer_fast::write_block(&parts, out).map(|length| [length])

@@ -16,8 +16,8 @@
  *   the lent output holds every byte it held before; after a success it holds
  *   the result from its first byte on, and bytes past the result keep what
  *   they held.
- *   A code outside its list (method, parity, shape, end sign) returns 1 from
- *   any call: the output is untouched and the answer is all zeros.
+ *   A number outside its list (method, parity, code, shape, end sign) returns 1
+ *   from any call: the output is untouched and the answer is all zeros.
  *   All other input, of any length and any content, gets a full answer.
  *
  * COUNTS AND PLACES
@@ -46,9 +46,20 @@ extern "C" {
 #define CORRIDOR_FRAME_32 6 /* the 32-bit check of appendix 2 */
 
 /* Parity of every byte under methods 1, 2 and 7. Methods 3 and 4 carry none;
- * the code still has to be one of the two. */
+ * the number still has to be one of the two. */
 #define CORRIDOR_EVEN 0 /* asynchronous links */
 #define CORRIDOR_ODD 1  /* synchronous links */
+
+/* Codes of the signs. Methods 1, 2 and 7 carry KOI-7 alone.
+ *
+ *            SOH  STX  ETX  DLE  SYN  ETB  US
+ *     KOI-7   01   02   03   10   16   17  1F
+ *     DKOI    01   02   03   10   32   26  1F
+ *
+ * The seven values of the block's own code are reserved, and no others: 32
+ * and 26 are data under KOI-7, 16 and 17 under DKOI. */
+#define CORRIDOR_KOI7 0
+#define CORRIDOR_DKOI 1
 
 /* Shapes of a block. Clear text is transparent: it carries any byte; methods
  * 1, 2 and 7 carry none. */
@@ -58,7 +69,9 @@ extern "C" {
 #define CORRIDOR_CLEAR_TEXT 4        /* DLE STX clear text */
 #define CORRIDOR_HEADER_CLEAR_TEXT 5 /* SOH header DLE STX clear text */
 
-/* End signs, parity bit clear. */
+/* End signs. The number names the sign under either code; it is the sign's
+ * value in KOI-7, parity bit clear. Under DKOI the byte on the line is 26 for
+ * CORRIDOR_ETB. */
 #define CORRIDOR_ETX 0x03
 #define CORRIDOR_ETB 0x17
 #define CORRIDOR_US 0x1F
@@ -81,6 +94,7 @@ extern "C" {
  *
  *   method       1 to 4, or 7
  *   parity       0 even, 1 odd
+ *   code         0 KOI-7, 1 DKOI
  *   line         the whole line: fill signs, if any, start, fields, end
  *                sign, check
  *   out          takes the header, then the text, both without fill signs,
@@ -89,12 +103,13 @@ extern "C" {
  *                always suffice.
  *
  * Returns 0:     answer[0] shape 1 to 5
- *                answer[1] end sign 03, 17 or 1F
+ *                answer[1] end sign 03, 17 or 1F, under either code
  *                answer[2] header length
  *                answer[3] text length
  *                answer[4] counted bytes, end sign and inner start included
  * Otherwise answer[0] is the value named here (else 0), the rest is 0:
- *    1  a code is outside its list
+ *    1  a number is outside its list
+ *   58  DKOI with method 1, 2 or 7; asked before all others
  *   11  the line is over 16,384 bytes
  *   12  methods 1, 2, 7: a byte has the wrong parity; first such place. Asked
  *       of every byte, also behind the end sign
@@ -115,7 +130,7 @@ extern "C" {
  *   19  out is too short; bytes needed. The line is sound: read it again with
  *       a longer output
  */
-uint32_t corridor_read_block(uint8_t method, uint8_t parity,
+uint32_t corridor_read_block(uint8_t method, uint8_t parity, uint8_t code,
                              const uint8_t *line, size_t line_length,
                              uint8_t *out, size_t out_length,
                              size_t answer[5]);
@@ -125,18 +140,21 @@ uint32_t corridor_read_block(uint8_t method, uint8_t parity,
  *
  *   method       1 to 4, or 7
  *   parity       0 even, 1 odd
+ *   code         0 KOI-7, 1 DKOI
  *   shape        1 to 5
- *   end_sign     03, 17 or 1F
+ *   end_sign     03, 17 or 1F, under either code
  *   header, text the parts; a part that the shape lacks has length 0. Bytes
- *                of header and plain text are none of the signs 01 02 03 10 16
- *                17 1F and, in methods 1, 2 and 7, below 80. Clear text is
- *                free
+ *                of header and plain text are none of the code's signs (01 02
+ *                03 10 16 17 1F, under DKOI 01 02 03 10 32 26 1F) and, in
+ *                methods 1, 2 and 7, below 80. Clear text is free
  *   out          takes the line
  *
  * Returns 0:     *value is the length of the line in bytes
  * Otherwise *value is the value named here (else 0):
- *    1  a code is outside its list, or the method does not carry the shape
- *       (methods 1, 2 and 7 carry no clear text)
+ *    1  a number is outside its list
+ *   58  DKOI with method 1, 2 or 7; asked before all others
+ *    1  the method does not carry the shape (methods 1, 2 and 7 carry no
+ *       clear text)
  *    4  a part that the shape lacks is not empty; asked before 2 and 3
  *    2  a header byte is reserved or, in methods 1, 2, 7, not below 80; its
  *       place in the header
@@ -144,7 +162,7 @@ uint32_t corridor_read_block(uint8_t method, uint8_t parity,
  *    5  more than 4,096 bytes are counted
  *    6  out is too short; bytes needed
  */
-uint32_t corridor_write_block(uint8_t method, uint8_t parity,
+uint32_t corridor_write_block(uint8_t method, uint8_t parity, uint8_t code,
                               uint8_t shape, uint8_t end_sign,
                               const uint8_t *header, size_t header_length,
                               const uint8_t *text, size_t text_length,

@@ -226,11 +226,11 @@ static uint32_t find(uint8_t method, uint8_t parity, struct walk *w, size_t *pla
     return w->counted > LONGEST_COUNT ? 17 : 0;
 }
 
-uint32_t plain_read_block(uint8_t method, uint8_t parity, const uint8_t *line, size_t line_length,
+uint32_t plain_read_block(uint8_t method, uint8_t parity, uint8_t code, const uint8_t *line, size_t line_length,
                           uint8_t *out, size_t out_length, size_t answer[5])
 {
     memset(answer, 0, 5 * sizeof *answer);
-    if (!is_block_method(method) || parity > 1)
+    if (!is_block_method(method) || parity > 1 || code != CORRIDOR_KOI7)
         return 1;
     struct walk w = {.line = line, .length = line_length, .method = method};
     w.table = method == 3 ? table_3 : method == 4 ? table_4 : NULL;

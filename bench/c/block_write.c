@@ -147,13 +147,15 @@ static void write_line(const struct form *f, uint8_t *out)
         put_check_3_4(end, f);
 }
 
-uint32_t plain_write_block(uint8_t method, uint8_t parity, uint8_t shape, uint8_t end_sign,
+uint32_t plain_write_block(uint8_t method, uint8_t parity, uint8_t code, uint8_t shape, uint8_t end_sign,
                            const uint8_t *header, size_t header_length, const uint8_t *text, size_t text_length,
                            uint8_t *out, size_t out_length, size_t *value)
 {
     struct form f = {method, parity, shape, end_sign, header, text, header_length, text_length};
     *value = 0;
-    if (!is_block_method(method) || parity > 1 || shape < 1 || shape > 5 || !is_end(end_sign))
+    if (!is_block_method(method) || parity > 1 || code != CORRIDOR_KOI7)
+        return 1;
+    if (shape < 1 || shape > 5 || !is_end(end_sign))
         return 1;
     uint32_t refusal = ask_parts(&f, value);
     if (refusal)

@@ -1,4 +1,5 @@
-/* The calls of corridor.h in plain C, under names of their own: same arguments, same answers, same output. plain_init comes first. */
+/* The calls of corridor.h in plain C, under names of their own: same arguments, same answers, same output, but KOI-7 is the one code
+ * that they know. plain_init comes first. */
 #ifndef PLAIN_H
 #define PLAIN_H
 #define corridor_read_block plain_read_block

@@ -3,8 +3,8 @@
 use super::check::{Check, Register, Sum, Sums, APPENDIX_1, APPENDIX_3};
 use super::grammar::{walk, Part, Walked};
 use super::signs::{sent, sent_byte};
-use crate::peer::block::{ask_parts, LONGEST_COUNT, LONGEST_LINE};
-use crate::peer::signs::{Link, Shape, Text, DLE, SYN};
+use crate::peer::block::{LONGEST_COUNT, LONGEST_LINE};
+use crate::peer::signs::{Link, Shape, Text, DLE, ETB, ETX, SOH, STX, SYN, US};
 use crate::peer::{ask, Refusal};
 
 /// What a block is written from.
@@ -124,9 +124,37 @@ fn copy_clear(part: Part, line: &[u8], out: &mut [u8]) {
     }
 }
 
+/// Asks what can be asked of the parts one by one: questions 1 to 4.
+fn ask_parts(parts: &Parts) -> Result<(), Refusal> {
+    let (link, shape) = (parts.link, parts.shape);
+    let clear = shape.text == Text::Clear;
+    ask(!(clear && link.seven_bits()), Refusal::plain(1))?;
+    let header_right = shape.header || parts.header.is_empty();
+    let text_right = shape.text != Text::Absent || parts.text.is_empty();
+    ask(header_right && text_right, Refusal::plain(4))?;
+    ask_characters(link, parts.header, 2)?;
+    if !clear {
+        ask_characters(link, parts.text, 3)?;
+    }
+    Ok(())
+}
+
+/// Asks whether every byte may stand in a header or a plain text.
+fn ask_characters(link: Link, part: &[u8], number: u32) -> Result<(), Refusal> {
+    let seven = link.seven_bits();
+    let wrong = |byte: &u8| match *byte {
+        SOH | STX | ETX | DLE | SYN | ETB | US => true,
+        byte => seven && byte >= 0x80,
+    };
+    match part.iter().position(wrong) {
+        Some(place) => Err(Refusal::with(number, place)),
+        None => Ok(()),
+    }
+}
+
 /// Writes a block; gives the length of its line.
 pub fn write(parts: &Parts, out: &mut [u8]) -> Result<usize, Refusal> {
-    ask_parts(parts.link, parts.shape, parts.header, parts.text)?;
+    ask_parts(parts)?;
     let clear = parts.shape.text == Text::Clear;
     let (start, inner_start) = parts.shape.starts();
     let counted = parts.header.len() + inner_start.len() + parts.text.len() + 1;

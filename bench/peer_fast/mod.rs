@@ -1,7 +1,7 @@
 //! The independent implementation of tests/peer made fast: the same grammar
-//! with one function per field, the same questions one by one (those of the
-//! parts are the peer's own), but checks go through tables, nothing is
-//! allocated, and a line is noted as places in it.
+//! with one function per field, the same questions one by one, but checks go
+//! through tables, nothing is allocated, a line is noted as places in it, and
+//! the signs have their values in KOI-7 alone.
 
 mod block;
 mod check;

@@ -1,6 +1,7 @@
 /*
- * Writes a block, reads it back, writes and reads a frame, judges a number
- * and keeps blocks until they are acknowledged. Every step is checked; the program ends with 1 where one fails.
+ * Writes a block, reads it back, does the same under DKOI, writes and reads a
+ * frame, judges a number and keeps blocks until they are acknowledged. Every
+ * step is checked; the program ends with 1 where one fails.
  */
 #include "corridor.h"
 
@@ -37,15 +38,16 @@ static void block(void)
     size_t answer[5];
 
     uint32_t number = corridor_write_block(
-        CORRIDOR_MATRIX, CORRIDOR_EVEN, CORRIDOR_HEADER_TEXT, CORRIDOR_ETX,
-        header, sizeof header, text, sizeof text, line, sizeof line, &length);
+        CORRIDOR_MATRIX, CORRIDOR_EVEN, CORRIDOR_KOI7, CORRIDOR_HEADER_TEXT,
+        CORRIDOR_ETX, header, sizeof header, text, sizeof text, line,
+        sizeof line, &length);
     expect(number == 0, "the block is written");
     if (number != 0)
         return;
     print_bytes("block", line, length);
 
-    number = corridor_read_block(CORRIDOR_MATRIX, CORRIDOR_EVEN, line, length,
-                                 out, sizeof out, answer);
+    number = corridor_read_block(CORRIDOR_MATRIX, CORRIDOR_EVEN, CORRIDOR_KOI7,
+                                 line, length, out, sizeof out, answer);
     expect(number == 0, "the block is taken");
     expect(answer[0] == CORRIDOR_HEADER_TEXT, "its shape");
     expect(answer[1] == CORRIDOR_ETX, "its end sign");
@@ -57,11 +59,40 @@ static void block(void)
 
     line[3] ^= 1; /* one bit of the inner start, behind the header */
     memset(out, 0xEE, sizeof out);
-    number = corridor_read_block(CORRIDOR_MATRIX, CORRIDOR_EVEN, line, length,
-                                 out, sizeof out, answer);
+    number = corridor_read_block(CORRIDOR_MATRIX, CORRIDOR_EVEN, CORRIDOR_KOI7,
+                                 line, length, out, sizeof out, answer);
     expect(number == 12 && answer[0] == 3, "a wrong parity is refused");
     expect(out[0] == 0xEE, "the output keeps its bytes");
     printf("damaged: refused %" PRIu32 " at %zu\n", number, answer[0]);
+}
+
+/* Under DKOI the byte of ETB is 26, and 16 and 17 are data. */
+static void other_code(void)
+{
+    const uint8_t text[] = {0x16, 0x17};
+    const uint8_t sent[] = {0x02, 0x16, 0x17, 0x26};
+    uint8_t line[8];
+    uint8_t out[2];
+    size_t length;
+    size_t answer[5];
+
+    uint32_t number = corridor_write_block(
+        CORRIDOR_CYCLIC, CORRIDOR_EVEN, CORRIDOR_DKOI, CORRIDOR_TEXT,
+        CORRIDOR_ETB, text, 0, text, sizeof text, line, sizeof line, &length);
+    expect(number == 0, "the block is written under DKOI");
+    if (number != 0)
+        return;
+    expect(memcmp(line, sent, sizeof sent) == 0, "its signs");
+    print_bytes("under DKOI", line, length);
+
+    number = corridor_read_block(CORRIDOR_CYCLIC, CORRIDOR_EVEN, CORRIDOR_DKOI,
+                                 line, length, out, sizeof out, answer);
+    expect(number == 0 && answer[1] == CORRIDOR_ETB, "it is taken");
+    expect(memcmp(out, text, sizeof text) == 0, "its text");
+
+    number = corridor_read_block(CORRIDOR_MATRIX, CORRIDOR_EVEN, CORRIDOR_DKOI,
+                                 line, length, out, sizeof out, answer);
+    expect(number == 58, "the matrix carries KOI-7 alone");
 }
 
 /* Two bytes FF under the 16-bit check take 54 bits. */
@@ -137,6 +168,7 @@ int main(void)
     const uint8_t digits[] = {'1', '2', '3', '4', '5', '6', '7', '8', '9'};
 
     block();
+    other_code();
     frame();
     numbers();
     sender();

@@ -47,6 +47,30 @@ pub enum Parity {
     Odd = 1,
 }
 
+/// The code that gives the signs their values.
+#[derive(Clone, Copy, PartialEq, Eq, Debug)]
+#[repr(u8)]
+pub enum Code {
+    /// SYN is 0x16 and ETB is 0x17.
+    Koi7 = 0,
+    /// SYN is 0x32 and ETB is 0x26. Methods 3 and 4 alone carry it.
+    Dkoi = 1,
+}
+
+/// What a link sets for all its blocks.
+#[derive(Clone, Copy, PartialEq, Eq, Debug)]
+pub struct Link {
+    pub method: BlockMethod,
+    pub parity: Parity,
+    pub code: Code,
+}
+
+impl Link {
+    fn codes(self) -> (u8, u8, u8) {
+        (self.method as u8, self.parity as u8, self.code as u8)
+    }
+}
+
 /// The fields of a block. Clear means transparent.
 #[derive(Clone, Copy, PartialEq, Eq, Debug)]
 #[repr(u8)]
@@ -76,7 +100,7 @@ impl Shape {
     }
 }
 
-/// The sign that ends a block.
+/// The sign that ends a block, under either code.
 #[derive(Clone, Copy, PartialEq, Eq, Debug)]
 #[repr(u8)]
 pub enum EndSign {
@@ -134,14 +158,9 @@ fn value_of(number: u32, value: usize) -> Result<usize, Refusal> {
 }
 
 /// Reads one block from `line`; header and text go to the start of `out`.
-pub fn read_block(
-    method: BlockMethod,
-    parity: Parity,
-    line: &[u8],
-    out: &mut [u8],
-) -> Result<Block, Refusal> {
+pub fn read_block(link: Link, line: &[u8], out: &mut [u8]) -> Result<Block, Refusal> {
     let mut answer = [0; 5];
-    let number = codes::read_block(method as u8, parity as u8, line, out, &mut answer);
+    let number = codes::read_block(link.codes(), line, out, &mut answer);
     value_of(number, answer[0])?;
     Ok(Block {
         shape: Shape::of_code(answer[0]),
@@ -154,17 +173,15 @@ pub fn read_block(
 
 /// Writes one block to the start of `out` and gives the length of its line.
 pub fn write_block(
-    method: BlockMethod,
-    parity: Parity,
+    link: Link,
     (shape, end_sign): (Shape, EndSign),
     header: &[u8],
     text: &[u8],
     out: &mut [u8],
 ) -> Result<usize, Refusal> {
     let mut value = 0;
-    let link = (method as u8, parity as u8);
     let form = (shape as u8, end_sign as u8);
-    let number = codes::write_block(link, form, header, text, out, &mut value);
+    let number = codes::write_block(link.codes(), form, header, text, out, &mut value);
     value_of(number, value)
 }
 
@@ -278,8 +295,7 @@ pub mod codes {
 
     /// `corridor_read_block`
     pub fn read_block(
-        method: u8,
-        parity: u8,
+        (method, parity, code): (u8, u8, u8),
         line: &[u8],
         out: &mut [u8],
         answer: &mut [usize; 5],
@@ -290,6 +306,7 @@ pub mod codes {
             interface::corridor_read_block(
                 method,
                 parity,
+                code,
                 line.as_ptr(),
                 line.len(),
                 out.as_mut_ptr(),
@@ -301,7 +318,7 @@ pub mod codes {
 
     /// `corridor_write_block`
     pub fn write_block(
-        (method, parity): (u8, u8),
+        (method, parity, code): (u8, u8, u8),
         (shape, end_sign): (u8, u8),
         header: &[u8],
         text: &[u8],
@@ -313,6 +330,7 @@ pub mod codes {
             interface::corridor_write_block(
                 method,
                 parity,
+                code,
                 shape,
                 end_sign,
                 header.as_ptr(),
@@ -438,6 +456,7 @@ mod interface {
         pub fn corridor_read_block(
             method: u8,
             parity: u8,
+            code: u8,
             line: *const u8,
             line_length: usize,
             out: *mut u8,
@@ -447,6 +466,7 @@ mod interface {
         pub fn corridor_write_block(
             method: u8,
             parity: u8,
+            code: u8,
             shape: u8,
             end_sign: u8,
             header: *const u8,

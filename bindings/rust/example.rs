@@ -1,10 +1,26 @@
-//! Writes a block, reads it back, sends a frame over, judges a number and
-//! keeps blocks until they are acknowledged.
+//! Writes a block, reads it back, does the same under DKOI, sends a frame over,
+//! judges a number and keeps blocks until they are acknowledged.
 
 #[allow(dead_code)]
 mod corridor;
 
-use corridor::{Arrival, BlockMethod, EndSign, FrameMethod, Parity, Refusal, Shape, Station, CELL};
+use corridor::{
+    Arrival, BlockMethod, Code, EndSign, FrameMethod, Link, Parity, Refusal, Shape, Station, CELL,
+};
+
+/// The matrix with even parity, which carries KOI-7 alone.
+const MATRIX: Link = Link {
+    method: BlockMethod::Matrix,
+    parity: Parity::Even,
+    code: Code::Koi7,
+};
+
+/// The cyclic check of appendix 1, under DKOI.
+const CYCLIC: Link = Link {
+    method: BlockMethod::Cyclic,
+    parity: Parity::Even,
+    code: Code::Dkoi,
+};
 
 fn main() {
     if let Err(refusal) = run() {
@@ -16,6 +32,7 @@ fn main() {
 fn run() -> Result<(), Refusal> {
     block()?;
     refused_block();
+    other_code()?;
     frame()?;
     let (arrival, awaited) = corridor::receive(3, 2, 2, 2)?;
     assert_eq!((arrival, awaited), (Arrival::New, 3));
@@ -27,13 +44,12 @@ fn run() -> Result<(), Refusal> {
 
 /// A header and a text under the matrix, there and back.
 fn block() -> Result<(), Refusal> {
-    let (method, parity) = (BlockMethod::Matrix, Parity::Even);
     let mut line = [0; 64];
     let form = (Shape::HeaderText, EndSign::Etx);
-    let length = corridor::write_block(method, parity, form, b"7B", b"ROOM 12", &mut line)?;
+    let length = corridor::write_block(MATRIX, form, b"7B", b"ROOM 12", &mut line)?;
     println!("block: {:02X?}", &line[..length]);
     let mut out = [0; 64];
-    let block = corridor::read_block(method, parity, &line[..length], &mut out)?;
+    let block = corridor::read_block(MATRIX, &line[..length], &mut out)?;
     let (header, rest) = out.split_at(block.header_length);
     let text = &rest[..block.text_length];
     assert_eq!((header, text), (&b"7B"[..], &b"ROOM 12"[..]));
@@ -45,16 +61,24 @@ fn block() -> Result<(), Refusal> {
 fn refused_block() {
     let mut out = [0xEE; 4];
     let line = [0x02, 0x03, 0xE3, 0xC3];
-    let answer = corridor::read_block(BlockMethod::Cyclic, Parity::Even, &line, &mut out);
-    assert_eq!(
-        answer,
-        Err(Refusal {
-            number: 18,
-            value: 0
-        })
-    );
+    let answer = corridor::read_block(CYCLIC, &line, &mut out);
+    let (number, value) = (18, 0);
+    assert_eq!(answer, Err(Refusal { number, value }));
     assert_eq!(out, [0xEE; 4]);
     println!("wrong check: {answer:?}");
+}
+
+/// Under DKOI the byte of ETB is 26, and 16 and 17 are data.
+fn other_code() -> Result<(), Refusal> {
+    let mut line = [0; 8];
+    let form = (Shape::Text, EndSign::Etb);
+    let length = corridor::write_block(CYCLIC, form, &[], &[0x16, 0x17], &mut line)?;
+    assert_eq!(line[..4], [0x02, 0x16, 0x17, 0x26]);
+    let mut out = [0; 2];
+    let block = corridor::read_block(CYCLIC, &line[..length], &mut out)?;
+    assert_eq!((block.end_sign, out), (EndSign::Etb, [0x16, 0x17]));
+    println!("under DKOI: {:02X?}", &line[..length]);
+    Ok(())
 }
 
 /// A content of two bytes FF under the 16-bit check takes 54 bits.

@@ -14,38 +14,32 @@ const DRAWN: u64 = 400_000;
 /// every check folds some words of it.
 const LONGER: usize = 112;
 
+const MATRIX: [(&str, Link); 2] = [
+    ("matrix, even", Link::koi7(2, false)),
+    ("matrix, odd", Link::koi7(2, true)),
+];
+
+const CYCLIC: [(&str, Link); 4] = [
+    ("method 3", Link::koi7(3, false)),
+    ("method 4", Link::koi7(4, false)),
+    ("method 3, DKOI", Link::dkoi(3)),
+    ("method 4, DKOI", Link::dkoi(4)),
+];
+
 pub fn run() {
     println!("bursts in short blocks and frames");
     Counts::print_head();
-    let even = |method| Link { method, odd: false };
-    let odd = Link {
-        method: 2,
-        odd: true,
-    };
     let plain = [0x01, 0x37, 0x16, 0x02, 0x52, 0x31, 0x03];
     let clear = [0x10, 0x02, 0x41, 0x10, 0x10, 0x42, 0x10, 0x17];
-    every("matrix, even", &Specimen::block(even(2), &plain), 9);
-    every("matrix, odd", &Specimen::block(odd, &plain), 9);
-    every(
-        "method 3, header and text",
-        &Specimen::block(even(3), &plain),
-        16,
-    );
-    every(
-        "method 3, clear text",
-        &Specimen::block(even(3), &clear),
-        16,
-    );
-    every(
-        "method 4, header and text",
-        &Specimen::block(even(4), &plain),
-        16,
-    );
-    every(
-        "method 4, clear text",
-        &Specimen::block(even(4), &clear),
-        16,
-    );
+    for (name, link) in MATRIX {
+        every(name, &Specimen::block(link, &plain), 9);
+    }
+    for (name, link) in CYCLIC {
+        let plain = Specimen::block(link, &plain);
+        every(&format!("{name}, header and text"), &plain, 16);
+        let clear = Specimen::block(link, &clear);
+        every(&format!("{name}, clear text"), &clear, 16);
+    }
     every("method 5", &Specimen::frame(5, &[0x41, 0x7E]), 16);
     every("method 6", &Specimen::frame(6, &[0x41, 0x7E]), 16);
     drawn("method 6", &Specimen::frame(6, &[0x41, 0x7E, 0x00]), 17, 32);
@@ -61,20 +55,21 @@ fn longer() {
     let text: Vec<u8> = bytes.into_iter().cycle().take(LONGER).collect();
     let plain = [&[0x02], &text[..], &[0x03]].concat();
     let clear = [&[0x10, 0x02], &text[..], &[0x10, 0x03]].concat();
-    let block = |method, odd, line: &[u8]| Specimen::block(Link { method, odd }, line);
-    every("matrix, even", &block(2, false, &plain), 9);
-    every("matrix, odd", &block(2, true, &plain), 9);
-    for (name, specimen, width) in [
-        ("method 3, plain text", block(3, false, &plain), 16),
-        ("method 3, clear text", block(3, false, &clear), 16),
-        ("method 4, plain text", block(4, false, &plain), 16),
-        ("method 4, clear text", block(4, false, &clear), 16),
-        ("method 5", Specimen::frame(5, &text), 16),
-        ("method 6", Specimen::frame(6, &text), 32),
-    ] {
-        every(name, &specimen, 8);
-        drawn(name, &specimen, 9, width);
+    for (name, link) in MATRIX {
+        every(name, &Specimen::block(link, &plain), 9);
     }
+    let up_to = |name: &str, specimen: &Specimen, width| {
+        every(name, specimen, 8);
+        drawn(name, specimen, 9, width);
+    };
+    for (name, link) in CYCLIC {
+        let plain = Specimen::block(link, &plain);
+        up_to(&format!("{name}, plain text"), &plain, 16);
+        let clear = Specimen::block(link, &clear);
+        up_to(&format!("{name}, clear text"), &clear, 16);
+    }
+    up_to("method 5", &Specimen::frame(5, &text), 16);
+    up_to("method 6", &Specimen::frame(6, &text), 32);
 }
 
 /// Every burst of at most `width` bits at every place. A pattern is odd: its

@@ -30,12 +30,12 @@ impl Counts {
     }
 
     pub fn print_head() {
-        print!("{:<52}{:>12}{:>12}", "", "tried", "refused");
+        print!("{:<58}{:>12}{:>12}", "", "tried", "refused");
         println!("{:>14}{:>14}", "same framing", "otherwise");
     }
 
     pub fn print(&self, name: &str) {
-        print!("{name:<52}{:>12}{:>12}", self.tried, self.refused);
+        print!("{name:<58}{:>12}{:>12}", self.tried, self.refused);
         println!("{:>14}{:>14}", self.same_framing, self.otherwise);
     }
 }

@@ -24,7 +24,7 @@ pub fn run() {
     println!("method 7, flipped bits");
     Counts::print_head();
     for odd in [false, true] {
-        let link = Link { method: 7, odd };
+        let link = Link::koi7(7, odd);
         let name = if odd { "odd" } else { "even" };
         let mut few = Counts::default();
         for characters in SHORT {

@@ -2,7 +2,7 @@
 
 use crate::judge::{Form, Settings};
 use crate::peer::block::{self, Parts};
-use crate::peer::signs::{Link, ENDS, METHODS, SHAPES};
+use crate::peer::signs::{Link, CODES, ENDS, METHODS, SHAPES};
 use crate::peer::{bits, frame, number, Refusal};
 
 /// What a call has to answer and what the output has to start with.
@@ -53,11 +53,10 @@ impl Expected {
 }
 
 fn link(settings: Settings) -> Option<Link> {
-    let Settings { method, parity } = settings;
-    (METHODS.contains(&method) && parity <= 1).then_some(Link {
-        method,
-        odd: parity == 1,
-    })
+    let (method, odd) = (settings.method, settings.parity == 1);
+    let code = *CODES.get(usize::from(settings.code))?;
+    let known = METHODS.contains(&method) && settings.parity <= 1;
+    known.then_some(Link { method, odd, code })
 }
 
 pub fn read_block(settings: Settings, line: &[u8]) -> Expected {

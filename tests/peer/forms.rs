@@ -26,8 +26,7 @@ const DATA: [Data; 2] = [Data::Above, Data::Any];
 
 /// Every link, with each shape that it carries.
 fn kinds() -> Vec<(Link, Shape)> {
-    let carried = |(method, odd)| {
-        let link = Link { method, odd };
+    let carried = |link: Link| {
         let shapes = if link.seven_bits() { 3 } else { 5 };
         SHAPES.into_iter().take(shapes).map(move |s| (link, s))
     };
@@ -60,10 +59,11 @@ fn parts(
 }
 
 fn byte(random: &mut Random, link: Link, data: Data, clear: bool) -> u8 {
+    let above = 1 + link.code.values().into_iter().fold(0, u8::max);
+    let end = if link.seven_bits() { 0x80 } else { 0x100 };
     match data {
-        Data::Above if link.seven_bits() => 0x20 + random.below(0x60) as u8,
-        Data::Above => 0x20 + random.below(0xE0) as u8,
-        Data::Any if clear => lines::clear_byte(random),
+        Data::Above => above + random.below(end - usize::from(above)) as u8,
+        Data::Any if clear => lines::clear_byte(random, link),
         Data::Any => lines::character(random, link),
     }
 }

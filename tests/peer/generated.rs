@@ -1,21 +1,32 @@
-//! Generated cases: one block and one frame a round, written, read back,
-//! damaged and read again.
+//! Generated cases: one block and one frame a round, in some rounds a block
+//! under DKOI too, written, read back, damaged and read again.
 
 use crate::corridor::codes;
 use crate::frames;
-use crate::judge::{differ, hex, Judge, Room, Settings};
+use crate::judge::{differ, hex, Judge, Room};
 use crate::lines::{self, Fill};
 use crate::peer::block::{self, Parts};
+use crate::peer::signs::{Code, Link, CODES};
 use crate::random::Random;
 use crate::small::{form, settings};
 
 /// A long line or frame comes once in so many rounds.
 const LONG_ONCE_IN: usize = 4_000;
 
+/// A block under DKOI comes once in so many rounds.
+const DKOI_ONCE_IN: usize = 2;
+
+/// A line is read under any code once in so many rounds.
+const ANY_CODE_ONCE_IN: usize = 8;
+
 pub fn run(judge: &mut Judge, random: &mut Random, rounds: u64) {
     for _ in 0..rounds {
         let long = random.once_in(LONG_ONCE_IN);
-        block_round(judge, random, if long { 4_200 } else { 14 });
+        let longest = if long { 4_200 } else { 14 };
+        block_round(judge, random, Code::Koi7, longest);
+        if random.once_in(DKOI_ONCE_IN) {
+            block_round(judge, random, Code::Dkoi, longest);
+        }
         frame_round(judge, random, if long { 4_200 } else { 12 });
     }
 }
@@ -32,9 +43,9 @@ fn room(random: &mut Random) -> Room {
     }
 }
 
-fn block_round(judge: &mut Judge, random: &mut Random, longest: usize) {
-    let parts = lines::parts(random, longest);
-    let link = parts.link;
+fn block_round(judge: &mut Judge, random: &mut Random, code: Code, longest: usize) {
+    let link = lines::link(random, code);
+    let parts = lines::parts(random, link, longest);
     judge.write_block(form(&parts), room(random));
     let fill = random.of(&[
         Fill::Nowhere,
@@ -46,6 +57,10 @@ fn block_round(judge: &mut Judge, random: &mut Random, longest: usize) {
     judge.read_block(settings(link), &line, room(random));
     if block::take(link, &line).is_ok() {
         round_trip(judge, &parts, &line);
+    }
+    if random.once_in(ANY_CODE_ONCE_IN) {
+        let code = random.of(&CODES);
+        judge.read_block(settings(Link { code, ..link }), &line, room(random));
     }
     let damaged = lines::damaged(random, link, line);
     judge.read_block(settings(link), &damaged, room(random));
@@ -78,8 +93,7 @@ fn read_back(parts: &Parts, line: &[u8]) {
     let both = [&parts.header[..], &parts.text].concat();
     let form = form(parts);
     let (mut out, mut answer) = (vec![0; both.len()], [0; 5]);
-    let Settings { method, parity } = form.settings;
-    let read = codes::read_block(method, parity, line, &mut out, &mut answer);
+    let read = codes::read_block(form.settings.codes(), line, &mut out, &mut answer);
     let wanted = [
         usize::from(form.shape),
         usize::from(form.end_sign),

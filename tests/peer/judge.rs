@@ -30,11 +30,18 @@ pub struct Judge {
     calls: u64,
 }
 
-/// Settings of a block call, as codes.
+/// Settings of a block call, as numbers.
 #[derive(Clone, Copy, Debug)]
 pub struct Settings {
     pub method: u8,
     pub parity: u8,
+    pub code: u8,
+}
+
+impl Settings {
+    pub fn codes(self) -> (u8, u8, u8) {
+        (self.method, self.parity, self.code)
+    }
 }
 
 /// What a block is written from, as codes and slices.
@@ -50,9 +57,15 @@ pub struct Form<'a> {
 impl Form<'_> {
     /// The library writes the block.
     pub fn write(self, out: &mut [u8], value: &mut usize) -> u32 {
-        let link = (self.settings.method, self.settings.parity);
         let form = (self.shape, self.end_sign);
-        codes::write_block(link, form, self.header, self.text, out, value)
+        codes::write_block(
+            self.settings.codes(),
+            form,
+            self.header,
+            self.text,
+            out,
+            value,
+        )
     }
 }
 
@@ -70,10 +83,9 @@ impl Judge {
         let (expected, mut out) = lend(expected, room, line.len());
         let mut answer = [BEFORE; 5];
         let lent = out.len() - GUARD;
-        let Settings { method, parity } = settings;
-        let number = codes::read_block(method, parity, line, &mut out[..lent], &mut answer);
+        let number = codes::read_block(settings.codes(), line, &mut out[..lent], &mut answer);
         same("read_block", &expected, number, &answer, &out, &input);
-        self.tally.note(Call::ReadBlock, number, method);
+        self.tally.note(Call::ReadBlock, number, settings.method);
         if self.typed_too() {
             typed::read_block(settings, line, &expected, lent);
         }

@@ -2,16 +2,16 @@
 
 use crate::frames;
 use crate::judge::{Form, Judge, Room, Settings};
-use crate::lines::{sealed, with_parity};
+use crate::lines::{in_code, sealed, with_parity};
 use crate::peer::bits;
-use crate::peer::signs::{Link, DLE, ETX, METHODS, SHAPES, SOH, STX, SYN};
+use crate::peer::signs::{Link, CODES, DLE, ETX, METHODS, SHAPES, SOH, STX, SYN};
 use crate::random::Random;
 use crate::small::settings;
 
 pub fn run(judge: &mut Judge, random: &mut Random) {
-    for method in METHODS {
-        for odd in [false, true] {
-            let link = Link { method, odd };
+    for code in CODES {
+        for (method, odd) in METHODS.into_iter().flat_map(|m| [(m, false), (m, true)]) {
+            let link = Link { method, odd, code };
             counts(judge, link);
             lengths(judge, random, link);
         }
@@ -56,8 +56,10 @@ fn counts(judge: &mut Judge, link: Link) {
     }
 }
 
-/// A line of characters: without check, with a right one, with a wrong one.
-fn read_both(judge: &mut Judge, link: Link, mut line: Vec<u8>) {
+/// A line from what its characters are in KOI-7: without check, with a right
+/// one, with a wrong one.
+fn read_both(judge: &mut Judge, link: Link, characters: Vec<u8>) {
+    let mut line = in_code(link.code, &characters);
     with_parity(link, &mut line);
     judge.read_block(settings(link), &line, Room::Needed(0));
     let mut line = sealed(link, line);
@@ -92,6 +94,7 @@ fn lengths(judge: &mut Judge, random: &mut Random, link: Link) {
         );
         let mut endless = vec![SYN; length];
         endless[0] = SOH;
+        endless = in_code(link.code, &endless);
         with_parity(link, &mut endless);
         judge.read_block(settings(link), &endless, Room::Bytes(64));
         let mut noise = random.bytes(length);
@@ -101,7 +104,7 @@ fn lengths(judge: &mut Judge, random: &mut Random, link: Link) {
     }
     let outside = Settings {
         method: 9,
-        parity: 0,
+        ..settings(link)
     };
     judge.read_block(outside, &vec![SYN; 16_385], Room::Bytes(64));
 }

@@ -2,7 +2,7 @@
 
 use crate::peer::block::{self, Parts};
 use crate::peer::grammar::walk;
-use crate::peer::signs::{Link, Text, DLE, ENDS, METHODS, RESERVED, SHAPES, SOH, STX, SYN};
+use crate::peer::signs::{Code, Link, Text, CODES, DLE, ENDS, METHODS, SHAPES, SOH, STX, SYN};
 use crate::random::Random;
 
 /// Where fill signs are put into a line.
@@ -13,53 +13,79 @@ pub enum Fill {
     Everywhere,
 }
 
-/// Every setting of a link. Methods 3 and 4 carry no parity, so one setting of
-/// it is enough.
-pub const LINKS: [(u8, bool); 8] = [
-    (1, false),
-    (1, true),
-    (2, false),
-    (2, true),
-    (3, false),
-    (4, false),
-    (7, false),
-    (7, true),
+/// Every setting of a link whose method carries its code. Methods 3 and 4
+/// carry no parity, so one setting of it is enough.
+pub const LINKS: [Link; 10] = [
+    Link::koi7(1, false),
+    Link::koi7(1, true),
+    Link::koi7(2, false),
+    Link::koi7(2, true),
+    Link::koi7(3, false),
+    Link::koi7(4, false),
+    Link::koi7(7, false),
+    Link::koi7(7, true),
+    Link::dkoi(3),
+    Link::dkoi(4),
 ];
 
-pub fn link(random: &mut Random) -> Link {
-    let method = random.of(&METHODS);
-    Link {
-        method,
-        odd: random.once_in(2),
+/// The values that KOI-7 or DKOI reserves and the other does not.
+pub const OF_ONE_CODE: [u8; 4] = [0x16, 0x17, 0x32, 0x26];
+
+/// Characters beside the signs of both codes, data under either.
+const BESIDE: [u8; 13] = [
+    0x00, 0x04, 0x0F, 0x11, 0x15, 0x18, 0x1E, 0x20, 0x25, 0x27, 0x31, 0x33, 0x7F,
+];
+
+/// A link under a code that its method carries.
+pub fn link(random: &mut Random, code: Code) -> Link {
+    loop {
+        let (method, odd) = (random.of(&METHODS), random.once_in(2));
+        let link = Link { method, odd, code };
+        if link.carries_code() {
+            return link;
+        }
     }
+}
+
+/// What stands for characters of KOI-7 under a code: each sign by its value,
+/// and the byte that has this value by the one that the sign has left.
+pub fn in_code(code: Code, characters: &[u8]) -> Vec<u8> {
+    let of = |character: &u8| match (Code::Koi7.sign(*character), code.sign(*character)) {
+        (Some(sign), _) => code.value(sign),
+        (None, Some(sign)) => Code::Koi7.value(sign),
+        (None, None) => *character,
+    };
+    characters.iter().map(of).collect()
 }
 
 /// A byte for header or plain text that is not reserved.
 pub fn character(random: &mut Random, link: Link) -> u8 {
+    let reserved = link.code.values();
     loop {
-        let character = match random.below(4) {
-            0 => random.of(&[0x00, 0x04, 0x0F, 0x11, 0x15, 0x18, 0x1E, 0x20, 0x7F]),
-            1 if !link.seven_bits() => 0x80 | random.of(&RESERVED),
+        let character = match random.below(8) {
+            0 | 1 => random.of(&BESIDE),
+            2 => random.of(&OF_ONE_CODE),
+            3 if !link.seven_bits() => 0x80 | random.of(&reserved),
             _ => link.character(random.byte()),
         };
-        if !RESERVED.contains(&character) {
+        if !reserved.contains(&character) {
             return character;
         }
     }
 }
 
-/// A byte for clear text: often a sign.
-pub fn clear_byte(random: &mut Random) -> u8 {
-    match random.below(4) {
-        0 => DLE,
-        1 => random.of(&RESERVED),
+/// A byte for clear text: often a sign, or a byte that the other code reserves.
+pub fn clear_byte(random: &mut Random, link: Link) -> u8 {
+    match random.below(8) {
+        0 | 1 => link.code.value(DLE),
+        2 => random.of(&link.code.values()),
+        3 => random.of(&OF_ONE_CODE),
         _ => random.byte(),
     }
 }
 
-/// Parts that can be written, with at most `longest` bytes each.
-pub fn parts(random: &mut Random, longest: usize) -> Parts {
-    let link = link(random);
+/// Parts that can be written over a link, with at most `longest` bytes each.
+pub fn parts(random: &mut Random, link: Link, longest: usize) -> Parts {
     let shapes = if link.seven_bits() {
         &SHAPES[..3]
     } else {
@@ -76,7 +102,7 @@ pub fn parts(random: &mut Random, longest: usize) -> Parts {
     match shape.text {
         Text::Absent => {}
         Text::Plain => text = (0..length).map(|_| character(random, link)).collect(),
-        Text::Clear => text = (0..length).map(|_| clear_byte(random)).collect(),
+        Text::Clear => text = (0..length).map(|_| clear_byte(random, link)).collect(),
     }
     Parts {
         link,
@@ -89,14 +115,16 @@ pub fn parts(random: &mut Random, longest: usize) -> Parts {
 
 /// The same parts with something that may be refused.
 pub fn spoiled(random: &mut Random, mut parts: Parts) -> Parts {
-    let reserved = random.of(&RESERVED);
+    let reserved = random.of(&parts.link.code.values());
+    let of_one_code = random.of(&OF_ONE_CODE);
     let any = random.byte();
-    let byte = random.of(&[reserved, reserved | 0x80, 0x80, 0xFF, any]);
-    let choice = random.below(4);
+    let byte = random.of(&[reserved, reserved | 0x80, of_one_code, 0x80, 0xFF, any]);
+    let choice = random.below(5);
     match choice {
         0 => parts.shape = random.of(&SHAPES),
         1 => parts.link.method = random.of(&METHODS),
-        2 => put(random, &mut parts.header, byte),
+        2 => parts.link.code = random.of(&CODES),
+        3 => put(random, &mut parts.header, byte),
         _ => put(random, &mut parts.text, byte),
     }
     parts
@@ -112,33 +140,31 @@ fn put(random: &mut Random, part: &mut Vec<u8>, byte: u8) {
     }
 }
 
-/// A piece of a line that no fill sign parts, and the fill sign that may
-/// stand before it.
-type Piece = (Vec<u8>, &'static [u8]);
+/// A piece of a line that no fill sign parts, and whether the fill sign that
+/// may stand before it is that of clear text.
+type Piece = (Vec<u8>, bool);
 
 /// The pieces of a line up to its end sign, as characters without parity.
 fn pieces(parts: &Parts) -> Vec<Piece> {
+    let value = |sign: &u8| parts.link.code.value(*sign);
+    let values = |signs: &[u8]| -> Vec<u8> { signs.iter().map(value).collect() };
     let clear = parts.shape.text == Text::Clear;
-    let start: &[u8] = if clear { &[DLE, STX] } else { &[STX] };
     let mut pieces: Vec<Piece> = Vec::new();
     if parts.shape.header {
-        pieces.push((vec![SOH], &[SYN]));
-        pieces.extend(parts.header.iter().map(|c| (vec![*c], &[SYN][..])));
+        pieces.push((values(&[SOH]), false));
+        pieces.extend(parts.header.iter().map(|c| (vec![*c], false)));
     }
     if parts.shape.text != Text::Absent {
-        pieces.push((start.to_vec(), &[SYN]));
+        let start: &[u8] = if clear { &[DLE, STX] } else { &[STX] };
+        pieces.push((values(start), false));
     }
-    let fill: &[u8] = if clear { &[DLE, SYN] } else { &[SYN] };
+    let dle = value(&DLE);
     for byte in &parts.text {
-        let times = if clear && *byte == DLE { 2 } else { 1 };
-        pieces.push((vec![*byte; times], fill));
+        let times = if clear && *byte == dle { 2 } else { 1 };
+        pieces.push((vec![*byte; times], clear));
     }
-    let end = if clear {
-        vec![DLE, parts.end_sign]
-    } else {
-        vec![parts.end_sign]
-    };
-    pieces.push((end, fill));
+    let end: &[u8] = &[DLE, parts.end_sign];
+    pieces.push((values(&end[usize::from(!clear)..]), clear));
     pieces
 }
 
@@ -155,8 +181,10 @@ pub fn line(random: &mut Random, parts: &Parts, fill: Fill) -> Vec<u8> {
 /// before each piece: a sign, a byte of header or text, a doubled DLE.
 pub fn filled(parts: &Parts, mut times: impl FnMut(usize) -> usize) -> Vec<u8> {
     let mut line = Vec::new();
-    for (place, (piece, sign)) in pieces(parts).into_iter().enumerate() {
-        line.extend(sign.repeat(times(place)));
+    let [dle, syn] = [DLE, SYN].map(|sign| parts.link.code.value(sign));
+    for (place, (piece, clear)) in pieces(parts).into_iter().enumerate() {
+        let fill: &[u8] = if clear { &[dle, syn] } else { &[syn] };
+        line.extend(fill.repeat(times(place)));
         line.extend(piece);
     }
     let sent = line.iter().map(|character| parts.link.sent(*character));
@@ -198,7 +226,9 @@ pub fn damaged(random: &mut Random, link: Link, mut line: Vec<u8>) -> Vec<u8> {
 
 fn damage(random: &mut Random, link: Link, line: &mut Vec<u8>) {
     let place = random.below(line.len() + 1);
-    let sign = link.sent(random.of(&RESERVED));
+    let reserved = random.of(&link.code.values());
+    let of_one_code = random.of(&OF_ONE_CODE);
+    let sign = link.sent(random.of(&[reserved, reserved, reserved, of_one_code]));
     let inside = place < line.len();
     match random.below(9) {
         0 if inside => line[place] ^= 1 << random.below(8),
@@ -229,7 +259,7 @@ pub fn noise(random: &mut Random, link: Link) -> Vec<u8> {
     if random.once_in(2) {
         line = line
             .iter()
-            .map(|byte| RESERVED[usize::from(*byte) % 7])
+            .map(|byte| link.code.values()[usize::from(*byte) % 7])
             .collect();
     }
     if random.once_in(2) {

@@ -83,19 +83,18 @@ const PLAIN: [u8; 5] = [0xE4, 0xE8, 0xEC, 0xA8, 0xC4];
 /// The text of a full block: 4,096 bytes are counted, one of them the end sign.
 const FULL_TEXT: usize = 4_095;
 
-fn plain_block(method: u8) -> Specimen {
-    block(method, FULL_TEXT, &[STX], &PLAIN, &[ETX])
+fn plain_block(link: Link) -> Specimen {
+    block(link, FULL_TEXT, &[STX], &PLAIN, &[ETX])
 }
 
 /// A block of clear text, many of its bytes signs.
-fn clear_block(method: u8) -> Specimen {
+fn clear_block(link: Link) -> Specimen {
     let text = [ETX, SOH, SYN, 0x41, STX, 0xFF];
-    block(method, FULL_TEXT, &[DLE, STX], &text, &[DLE, ETX])
+    block(link, FULL_TEXT, &[DLE, STX], &text, &[DLE, ETX])
 }
 
-fn block(method: u8, length: usize, start: &[u8], text: &[u8], end: &[u8]) -> Specimen {
+fn block(link: Link, length: usize, start: &[u8], text: &[u8], end: &[u8]) -> Specimen {
     let text: Vec<u8> = text.iter().copied().cycle().take(length).collect();
-    let link = Link { method, odd: false };
     Specimen::block(link, &[start, &text, end].concat())
 }
 
@@ -108,24 +107,40 @@ fn frame(method: u8, content: usize) -> Specimen {
     Specimen::frame(method, &bytes.collect::<Vec<u8>>())
 }
 
+const KOI7_3: Link = Link::koi7(3, false);
+const KOI7_4: Link = Link::koi7(4, false);
+const DKOI_3: Link = Link::dkoi(3);
+const DKOI_4: Link = Link::dkoi(4);
+
+/// The shorter blocks and frames, by the bytes of their text or content.
+const SHORTER: [(&str, fn(usize) -> Specimen); 6] = [
+    ("method 3", |n| block(KOI7_3, n, &[STX], &PLAIN, &[ETX])),
+    ("method 4", |n| block(KOI7_4, n, &[STX], &PLAIN, &[ETX])),
+    ("method 3, DKOI", |n| {
+        block(DKOI_3, n, &[STX], &PLAIN, &[ETX])
+    }),
+    ("method 4, DKOI", |n| {
+        block(DKOI_4, n, &[STX], &PLAIN, &[ETX])
+    }),
+    ("method 5", |n| frame(5, n)),
+    ("method 6", |n| frame(6, n)),
+];
+
 /// Every pair of shorter blocks and frames, whose length lies around where
 /// checks start to fold and ends a sixteen or not: too short for any to pass.
 pub fn shorter() {
     println!("every pair of flipped bits in shorter blocks and frames");
     Counts::print_head();
-    for method in 3..=6 {
+    for (name, specimen) in SHORTER {
         let mut counts = Counts::default();
         for length in [47, 48, 63, 64, 65, 79, 80, 97] {
-            let specimen = match method {
-                3 | 4 => block(method, length, &[STX], &PLAIN, &[ETX]),
-                _ => frame(method, length),
-            };
+            let specimen = specimen(length);
             let mut tester = Tester::new(&specimen);
             (1..specimen.checked.len()).for_each(|distance| tester.apart(distance));
             counts.add(tester.counts);
         }
-        assert_eq!(counts.same_framing, 0, "method {method}");
-        counts.print(&format!("method {method}, 47 to 97 bytes"));
+        assert_eq!(counts.same_framing, 0, "{name}");
+        counts.print(&format!("{name}, 47 to 97 bytes"));
     }
 }
 
@@ -134,10 +149,14 @@ pub fn slice(time: Duration) {
     println!("pairs of flipped bits in full blocks and frames, a slice");
     Counts::print_head();
     let specimens = [
-        ("plain text", plain_block(3), time / 5),
-        ("clear text", clear_block(3), time / 5),
-        ("plain text", plain_block(4), time / 5),
-        ("clear text", clear_block(4), time / 5),
+        ("plain text", plain_block(KOI7_3), time / 10),
+        ("clear text", clear_block(KOI7_3), time / 10),
+        ("plain text", plain_block(KOI7_4), time / 10),
+        ("clear text", clear_block(KOI7_4), time / 10),
+        ("DKOI, plain text", plain_block(DKOI_3), time / 10),
+        ("DKOI, clear text", clear_block(DKOI_3), time / 10),
+        ("DKOI, plain text", plain_block(DKOI_4), time / 10),
+        ("DKOI, clear text", clear_block(DKOI_4), time / 10),
         ("frame", frame(5, 4_096), time / 10),
         ("frame", frame(6, 65_536), time / 10),
     ];
@@ -169,8 +188,8 @@ fn slice_of(name: &str, specimen: &Specimen, time: Duration) {
 pub fn all(threads: usize) {
     println!("every pair of flipped bits in full blocks, {threads} threads");
     Counts::print_head();
-    for method in [3, 4] {
-        let specimen = plain_block(method);
+    for link in [KOI7_3, KOI7_4] {
+        let (method, specimen) = (link.method, plain_block(link));
         let bits = specimen.checked.len();
         let counts = every(&specimen, threads);
         counts.print(&format!("method {method}, plain text, {bits} checked bits"));

@@ -1,11 +1,12 @@
-//! The rows of document 01, "Lines to try", lines of method 7, and the published
-//! check values.
+//! The rows of document 01, "Lines to try", lines of method 7 and of DKOI, and
+//! the published check values.
 //! The results stand here as the paper prints them; the judge compares the
 //! whole answer with the peer's on top.
 
 use crate::corridor;
 use crate::judge::{differ, hex, Form, Judge, Room, Settings};
-use crate::peer::signs::{Link, ETX, METHODS, STX};
+use crate::peer::signs::{Link, CODES, ETX, METHODS, STX};
+use crate::small::settings;
 
 /// A row of reading: method, parity, line; answer number, values, output.
 type Row<'a> = (&'a str, u8, u8, &'a [u8], u32, [usize; 5], &'a [u8]);
@@ -125,17 +126,59 @@ const ROWS: [Row; 16] = [
     ("17", 4, 1, &[], 13, [0; 5], b""),
 ];
 
+/// The same under DKOI.
+const DKOI_ROWS: [Row; 3] = [
+    (
+        "card 7, fill 32 in a header, end 26",
+        3,
+        0,
+        &[0x01, 0x48, 0x32, 0x49, 0x26, 0x32, 0xD3],
+        0,
+        [1, 0x17, 2, 0, 3],
+        b"HI",
+    ),
+    (
+        "card 7, 16 and 17 as data",
+        3,
+        0,
+        &[0x02, 0x16, 0x17, 0x41, 0x03, 0x50, 0x10],
+        0,
+        [2, 3, 0, 3, 4],
+        &[0x16, 0x17, 0x41],
+    ),
+    (
+        "card 7, method 2",
+        2,
+        0,
+        &[0x82, 0x41, 0x03, 0x42],
+        58,
+        [0; 5],
+        b"",
+    ),
+];
+
 pub fn run(judge: &mut Judge) {
     for row in ROWS {
-        read(judge, row);
+        read(judge, 0, row);
+    }
+    for row in DKOI_ROWS {
+        read(judge, 1, row);
     }
     frame(judge, "11", 5, &[0xFF], 42, &[0xFF, 0x00, 0xFF]);
     frame(judge, "12", 5, &[0xFF, 0xFF], 54, &[0xFF; 4]);
     frame(judge, "13", 6, &[0xFF], 58, &[0xFF, 0x00, 0x00, 0x00, 0xFF]);
     numbers(judge);
-    for method in METHODS {
-        full_block(judge, method, 4_095, 0);
-        full_block(judge, method, 4_096, 5);
+    let links = CODES.map(|code| METHODS.map(|method| (method, code)));
+    for (method, code) in links.into_iter().flatten() {
+        let link = Link {
+            method,
+            odd: false,
+            code,
+        };
+        if link.carries_code() {
+            full_block(judge, link, 4_095, 0);
+            full_block(judge, link, 4_096, 5);
+        }
     }
     published(judge);
 }
@@ -152,12 +195,16 @@ fn expect<T: PartialEq + std::fmt::Debug>(row: &str, library: T, paper: T) {
     }
 }
 
-fn read(judge: &mut Judge, (row, method, parity, line, number, answer, out): Row) {
-    let settings = Settings { method, parity };
+fn read(judge: &mut Judge, code: u8, (row, method, parity, line, number, answer, out): Row) {
+    let settings = Settings {
+        method,
+        parity,
+        code,
+    };
     judge.read_block(settings, line, Room::Needed(0));
     judge.read_block(settings, line, Room::Needed(5));
     let (mut got, mut output) = ([7; 5], [0xEE; 8]);
-    let told = corridor::codes::read_block(method, parity, line, &mut output, &mut got);
+    let told = corridor::codes::read_block(settings.codes(), line, &mut output, &mut got);
     let mut wanted = [0xEE; 8];
     wanted[..out.len()].copy_from_slice(out);
     expect(row, (told, got, output), (number, answer, wanted));
@@ -199,8 +246,8 @@ fn numbers(judge: &mut Judge) {
 }
 
 /// Row 16: a text of so many bytes and an end sign, written and read.
-fn full_block(judge: &mut Judge, method: u8, text: usize, number: u32) {
-    let settings = Settings { method, parity: 0 };
+fn full_block(judge: &mut Judge, link: Link, text: usize, number: u32) {
+    let settings = settings(link);
     let text = vec![b'A'; text];
     let form = Form {
         settings,
@@ -215,7 +262,6 @@ fn full_block(judge: &mut Judge, method: u8, text: usize, number: u32) {
         judge.read_block(settings, &line, Room::Needed(0))
     } else {
         let even = |byte: u8| byte | ((byte.count_ones() % 2) as u8) << 7;
-        let link = Link { method, odd: false };
         let start = if link.seven_bits() { even(STX) } else { STX };
         let long = [&[start], &text[..], &[ETX], &vec![b'A'; link.check_bytes()]];
         judge.read_block(settings, &long.concat(), Room::Needed(0))

@@ -38,7 +38,8 @@ impl Reader {
         match self {
             Reader::Block(link) => {
                 let mut answer = [0; 5];
-                codes::read_block(link.method, u8::from(link.odd), line, out, &mut answer)
+                let settings = (link.method, u8::from(link.odd), link.code as u8);
+                codes::read_block(settings, line, out, &mut answer)
             }
             Reader::Frame { method, told } => codes::read_frame(method, told, line, out, &mut 0),
         }
@@ -86,8 +87,9 @@ impl Specimen {
         }
     }
 
-    /// A block from its characters up to the end sign.
+    /// A block from what its characters up to the end sign are in KOI-7.
     pub fn block(link: Link, characters: &[u8]) -> Specimen {
+        let characters = crate::lines::in_code(link.code, characters);
         let sent = characters
             .iter()
             .map(|character| link.sent(*character))

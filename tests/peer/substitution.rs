@@ -3,9 +3,9 @@
 
 use crate::counts::Counts;
 use crate::lines::LINKS;
-use crate::peer::signs::{Link, DLE, ETX, SOH, STX};
+use crate::peer::signs::{Code, Link, DLE, ETX, SOH, STX};
 use crate::property::may_differ;
-use crate::specimen::Specimen;
+use crate::specimen::{Reader, Specimen};
 
 /// Characters of blocks that every method carries, then of clear blocks.
 const PLAIN: [&[u8]; 7] = [
@@ -45,8 +45,7 @@ const ANY: [u8; 5] = [0xFF, 0x03, 0x41, 0x16, 0x90];
 /// The lines and frames that are damaged.
 pub fn specimens() -> Vec<Specimen> {
     let mut specimens = Vec::new();
-    for (method, odd) in LINKS {
-        let link = Link { method, odd };
+    for link in LINKS {
         specimens.extend(PLAIN.map(|characters| Specimen::block(link, characters)));
         specimens.extend(LONGER.map(|length| longer(link, length)));
         if !link.seven_bits() {
@@ -95,14 +94,24 @@ pub fn run() {
         specimens.len()
     );
     Counts::print_head();
-    for method in 1..=7 {
+    let koi7 = (1..=7).map(|method| (method, false));
+    for (method, dkoi) in koi7.chain([(3, true), (4, true)]) {
         let mut counts = Counts::default();
-        for specimen in specimens.iter().filter(|one| one.reader.method() == method) {
+        let of_kind = |one: &&Specimen| kind(one) == (method, dkoi);
+        for specimen in specimens.iter().filter(of_kind) {
             counts.add(substitute(specimen));
         }
         assert!(counts.tried > 0 && counts.tried > counts.same_framing);
-        counts.print(&format!("method {method}"));
+        let code = if dkoi { ", DKOI" } else { "" };
+        counts.print(&format!("method {method}{code}"));
     }
+}
+
+/// The method of a specimen, and whether it is read under DKOI.
+fn kind(specimen: &Specimen) -> (u8, bool) {
+    let reader = specimen.reader;
+    let dkoi = matches!(reader, Reader::Block(link) if link.code == Code::Dkoi);
+    (reader.method(), dkoi)
 }
 
 /// Every substitution of one line: the library answers as the peer does, and

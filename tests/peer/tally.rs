@@ -25,8 +25,8 @@ const CALLS: [(Call, &str, &[usize]); 7] = [
 /// Every number that documents 01 and 02 give to a question of the call.
 fn questions(call: Call) -> &'static [usize] {
     match call {
-        Call::ReadBlock => &[11, 12, 13, 14, 15, 52, 53, 17, 18, 54, 19],
-        Call::WriteBlock => &[1, 4, 2, 3, 5, 6],
+        Call::ReadBlock => &[58, 11, 12, 13, 14, 15, 52, 53, 17, 18, 54, 19],
+        Call::WriteBlock => &[58, 1, 4, 2, 3, 5, 6],
         Call::ReadFrame => &[31, 32, 33, 34, 35, 36, 37, 38],
         Call::WriteFrame => &[21, 22, 23],
         Call::Receive => &[41, 51, 42, 43],
@@ -66,14 +66,18 @@ impl Tally {
         self.counts.iter().flatten().flatten().sum()
     }
 
+    /// How often a call answered a number.
+    pub fn met(&self, call: Call, number: usize) -> u64 {
+        self.counts[call as usize][number].iter().sum()
+    }
+
     /// The numbers that their call never answered, and calls that never
     /// succeeded (0).
     pub fn missing(&self) -> Vec<(Call, usize)> {
         let mut missing = Vec::new();
         for (call, _, _) in CALLS {
             for &number in [0].iter().chain(questions(call)) {
-                let met: u64 = self.counts[call as usize][number].iter().sum();
-                if met == 0 {
+                if self.met(call, number) == 0 {
                     missing.push((call, number));
                 }
             }

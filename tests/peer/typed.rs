@@ -1,11 +1,12 @@
 //! The typed calls of the bindings, held against the same expected answers.
 
-use crate::corridor::{self, Arrival, BlockMethod, EndSign, FrameMethod, Parity, Refusal, Shape};
+use crate::corridor::{self, Arrival, BlockMethod, Code, EndSign, FrameMethod, Link, Parity};
+use crate::corridor::{Refusal, Shape};
 use crate::expected::Expected;
 use crate::judge::{before, differ, Form, Settings};
 
 /// The types of settings; none where a code is outside its list.
-fn link(settings: Settings) -> Option<(BlockMethod, Parity)> {
+fn link(settings: Settings) -> Option<Link> {
     let method = match settings.method {
         1 => BlockMethod::Parity,
         2 => BlockMethod::Matrix,
@@ -19,7 +20,16 @@ fn link(settings: Settings) -> Option<(BlockMethod, Parity)> {
         1 => Parity::Odd,
         _ => return None,
     };
-    Some((method, parity))
+    let code = match settings.code {
+        0 => Code::Koi7,
+        1 => Code::Dkoi,
+        _ => return None,
+    };
+    Some(Link {
+        method,
+        parity,
+        code,
+    })
 }
 
 fn shape(code: u8) -> Option<Shape> {
@@ -60,11 +70,11 @@ fn same(call: &str, expected: &Expected, got: Result<Vec<usize>, Refusal>, out: 
 }
 
 pub fn read_block(settings: Settings, line: &[u8], expected: &Expected, room: usize) {
-    let Some((method, parity)) = link(settings) else {
+    let Some(link) = link(settings) else {
         return;
     };
     let mut out = before(room);
-    let got = corridor::read_block(method, parity, line, &mut out).map(|block| {
+    let got = corridor::read_block(link, line, &mut out).map(|block| {
         let form = [block.shape as usize, block.end_sign as usize];
         [
             &form[..],
@@ -81,12 +91,12 @@ pub fn write_block(form: Form, expected: &Expected, room: usize) {
         shape(form.shape),
         end_sign(form.end_sign),
     );
-    let (Some((method, parity)), Some(shape), Some(sign)) = (link, shape, sign) else {
+    let (Some(link), Some(shape), Some(sign)) = (link, shape, sign) else {
         return;
     };
     let mut out = before(room);
     let Form { header, text, .. } = form;
-    let got = corridor::write_block(method, parity, (shape, sign), header, text, &mut out);
+    let got = corridor::write_block(link, (shape, sign), header, text, &mut out);
     same(
         "typed write_block",
         expected,

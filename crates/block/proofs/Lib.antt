@@ -10,5 +10,6 @@ pub mod Sums
 pub mod Passed
 pub mod Start
 pub mod Scans
+pub mod Tables
 pub mod SignTests
 pub mod Walks

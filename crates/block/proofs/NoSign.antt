@@ -3,26 +3,27 @@ use mathlib.Core.Path.{◌≡◌}
 use Prim.Native.Nat.{ℕ, ◌<◌}
 use native.Mathlib.Omega.{arith}
 use borrow.Author.Tests.{ne_eqb}
-use Rattle.block.specs.Signs.{SOH, STX, ETX, DLE, SYN, ETB, US, sign_of, other}
+use Rattle.block.specs.Signs.{CodeTable, koi7, sign_of, other}
 
 -- what the arms of ranges know of a character: it is none of the signs, in the order of the arms
-abbrev pub NoSign : ℕ → Type 0
-NoSign b =
-    ((((((Unit {0} × (b ≡ SOH → ⊥)) × (b ≡ STX → ⊥)) × (b ≡ DLE → ⊥)) × (b ≡ SYN → ⊥)) × (b ≡ ETX → ⊥)) × (b ≡ ETB → ⊥)) × (b ≡ US → ⊥)
+abbrev pub NoSign : CodeTable → ℕ → Type 0
+NoSign t b =
+    ((((((Unit {0} × (b ≡ t.SOH → ⊥)) × (b ≡ t.STX → ⊥)) × (b ≡ t.DLE → ⊥)) × (b ≡ t.SYN → ⊥)) × (b ≡ t.ETX → ⊥)) × (b ≡ t.ETB → ⊥)) × (b ≡ t.US → ⊥)
 
-pub no_sign : (b : ℕ) → NoSign b → sign_of b ≡ other
+pub no_sign : (t : CodeTable) (b : ℕ) → NoSign t b → sign_of t b ≡ other
 unfolding sign_of
-no_sign b h =
+no_sign t b h =
     simp (
-      ne_eqb b SOH h.0.0.0.0.0.0.1,
-      ne_eqb b STX h.0.0.0.0.0.1,
-      ne_eqb b DLE h.0.0.0.0.1,
-      ne_eqb b SYN h.0.0.0.1,
-      ne_eqb b ETX h.0.0.1,
-      ne_eqb b ETB h.0.1,
-      ne_eqb b US h.1,
+      ne_eqb b t.SOH h.0.0.0.0.0.0.1,
+      ne_eqb b t.STX h.0.0.0.0.0.1,
+      ne_eqb b t.DLE h.0.0.0.0.1,
+      ne_eqb b t.SYN h.0.0.0.1,
+      ne_eqb b t.ETX h.0.0.1,
+      ne_eqb b t.ETB h.0.1,
+      ne_eqb b t.US h.1,
     )
 
-pub above_none : (b : ℕ) → US < b → NoSign b
-above_none b h =
+pub above_koi7 : (b : ℕ) → 0x1F < b → sign_of koi7 b ≡ other
+above_koi7 b h =
+    no_sign koi7 b
     (((((((tt, λ e. omega arith), λ e. omega arith), λ e. omega arith), λ e. omega arith), λ e. omega arith), λ e. omega arith), λ e. omega arith)

@@ -13,8 +13,8 @@ use Rattle.block.specs.declared.ReadRefusal.TheVariants as reading
 use Rattle.block.specs.declared.Block.{Block}
 use Rattle.block.specs.declared.WriteRefusal.{WriteRefusal}
 use Rattle.block.specs.declared.WriteRefusal.TheVariants as writing
-use Rattle.block.specs.Signs.{ETX, ETB, end_byte}
-use Rattle.block.specs.Answers.{Numbers, block, line, refused, shape_number, read_number, read_value, of_read, write_number, write_value, of_written}
+use Rattle.block.specs.Signs.{koi7}
+use Rattle.block.specs.Answers.{Numbers, block, line, refused, shape_number, end_number, read_number, read_value, of_read, write_number, write_value, of_written}
 
 -- ---- shape and end sign
 
@@ -34,9 +34,9 @@ shape_back shape.ClearText = refl
 shape_back shape.HeaderClearText = refl
 
 end_from : ℕ → EndSign
-end_from b = cond (eqb b ETX) Etx (cond (eqb b ETB) Etb Us)
+end_from b = cond (eqb b koi7.ETX) Etx (cond (eqb b koi7.ETB) Etb Us)
 
-end_back : (e : EndSign) → end_from (end_byte e) ≡ e
+end_back : (e : EndSign) → end_from (end_number e) ≡ e
 unfolding end_from
 end_back Etx = refl
 end_back Etb = refl
@@ -46,7 +46,8 @@ end_back Us = refl
 
 read_refusal_from : ℕ → ℕ → ReadRefusal
 read_refusal_from n v =
-    cond (eqb n 11) reading.TooLong
+    cond (eqb n 58) reading.CodeNotCarried
+    (cond (eqb n 11) reading.TooLong
     (cond (eqb n 12) (reading.WrongParity (record { 0 = v }))
     (cond (eqb n 13) reading.NoStart
     (cond (eqb n 14) (reading.OutOfPlace (record { 0 = v }))
@@ -55,10 +56,11 @@ read_refusal_from n v =
     (cond (eqb n 53) (reading.CheckLong (record { 0 = v }))
     (cond (eqb n 17) reading.TooManyCounted
     (cond (eqb n 18) reading.WrongCheck
-    (cond (eqb n 54) reading.WrongDiagonal (reading.OutputShort v))))))))))
+    (cond (eqb n 54) reading.WrongDiagonal (reading.OutputShort v)))))))))))
 
 read_refusal_back : (r : ReadRefusal) → read_refusal_from (read_number r) (read_value r) ≡ r
 unfolding read_refusal_from
+read_refusal_back reading.CodeNotCarried = refl
 read_refusal_back reading.TooLong = refl
 read_refusal_back (reading.WrongParity at) = refl
 read_refusal_back reading.NoStart = refl
@@ -90,14 +92,16 @@ of_read_injective r s e = sym (read_back r) ∙ ap read_from e ∙ read_back s
 
 write_refusal_from : ℕ → ℕ → WriteRefusal
 write_refusal_from n v =
-    cond (eqb n 1) writing.NotCarried
+    cond (eqb n 58) writing.CodeNotCarried
+    (cond (eqb n 1) writing.NotCarried
     (cond (eqb n 2) (writing.HeaderByte (record { 0 = v }))
     (cond (eqb n 3) (writing.TextByte (record { 0 = v }))
     (cond (eqb n 4) writing.PartNotEmpty
-    (cond (eqb n 5) writing.TooManyCounted (writing.OutputShort v)))))
+    (cond (eqb n 5) writing.TooManyCounted (writing.OutputShort v))))))
 
 write_refusal_back : (r : WriteRefusal) → write_refusal_from (write_number r) (write_value r) ≡ r
 unfolding write_refusal_from
+write_refusal_back writing.CodeNotCarried = refl
 write_refusal_back writing.NotCarried = refl
 write_refusal_back (writing.HeaderByte at) = refl
 write_refusal_back (writing.TextByte at) = refl

@@ -17,7 +17,8 @@ use Rattle.block.specs.declared.EndSign.{EndSign}
 use Rattle.block.specs.declared.Mark.{Mark}
 use Rattle.block.specs.declared.Field.{Field}
 use Rattle.block.specs.declared.Field.TheVariants.{Start}
-use Rattle.block.specs.Characters.{is_seven, is_odd, parity_right}
+use Rattle.block.specs.Signs.{CodeTable}
+use Rattle.block.specs.Characters.{is_seven, carries, is_odd, parity_right}
 use Rattle.block.specs.Walk.{Stop, ended, refused, Walked, walk}
 use Rattle.block.specs.Marks.{counted}
 use Rattle.block.specs.Check.{check_length}
@@ -27,10 +28,11 @@ use Rattle.block.specs.Limits.{counted_limit, line_limit}
 abbrev pub ParitiesRight : Parity → List ℕ → Type 0
 ParitiesRight p = Each (λ b. parity (low_bits 8 b) ≡ is_odd p)
 
-pub record Passed (m : Method) (p : Parity) (line : List ℕ) (ks : List Mark) (f : Field) (e : EndSign) : Type 0 where
+pub record Passed (t : CodeTable) (m : Method) (p : Parity) (line : List ℕ) (ks : List Mark) (f : Field) (e : EndSign) : Type 0 where
+  pub carried : carries t m ≡ true
   pub short : length line ≤ line_limit
   pub parities : is_seven m ≡ true → ParitiesRight p line
-  pub walked : walk (is_seven m) line 0 Start ≡ record { marks = ks; stop = ended f e }
+  pub walked : walk t (is_seven m) line 0 Start ≡ record { marks = ks; stop = ended f e }
   pub closes : length line ≡ length ks + check_length m
   pub few : length (counted ks line) ≤ counted_limit
 
@@ -82,12 +84,14 @@ module _ {ks : List Mark} {f : Field} {e : EndSign} where
             subst (λ (i : List Mark). length (counted i line) ≤ counted_limit) x (leb-true _ _ b.0),
           )
 
-pub passed : (m : Method) (p : Parity) (line : List ℕ) (ks : List Mark) (f : Field) (e : EndSign) → framed m p line ≡ found ks f e → Passed m p line ks f e
+pub passed : (t : CodeTable) (m : Method) (p : Parity) (line : List ℕ) (ks : List Mark) (f : Field) (e : EndSign) → framed t m p line ≡ found ks f e
+    → Passed t m p line ks f e
 unfolding framed
-passed m p line ks f e q =
-    let w = walk (is_seven m) line 0 Start in
+passed t m p line ks f e q =
+    let w = walk t (is_seven m) line 0 Start in
     let next = ask_walk m line w in
-    let a = ask-passed (leb (length line) line_limit) not_found q in
+    let c = ask-passed (carries t m) not_found q in
+    let a = ask-passed (leb (length line) line_limit) not_found c.1 in
     let b = either_passed (is_seven m) p line next a.1 in
-    let c = end_passed m line w b.1 in
-    record { short = leb-true _ _ a.0; parities = b.0; walked = c.0; closes = c.1; few = c.2 }
+    let d = end_passed m line w b.1 in
+    record { carried = c.0; short = leb-true _ _ a.0; parities = b.0; walked = d.0; closes = d.1; few = d.2 }

@@ -7,7 +7,7 @@ use lib.ListN.{length}
 use Rattle.block.specs.declared.Field.{Field}
 use Rattle.block.specs.declared.Judged.{Judged}
 use Rattle.block.specs.declared.Judged.TheVariants.{Is, Ends, NoStart, OutOfPlace, DleOutOfPlace}
-use Rattle.block.specs.Signs.{sign_of}
+use Rattle.block.specs.Signs.{CodeTable, sign_of}
 use Rattle.block.specs.Characters.{character}
 use Rattle.block.specs.Walk.{Walked, judge, onward, walk}
 
@@ -19,8 +19,8 @@ within_step n go ih f at NoStart = omega arith
 within_step n go ih f at OutOfPlace = omega arith
 within_step n go ih f at DleOutOfPlace = omega arith
 
-pub marks-within : (seven : Bool) (line : List ℕ) (at : ℕ) (f : Field) → length (walk seven line at f).marks ≤ length line
-marks-within seven [] at f = omega arith
-marks-within seven (b ∷ rest) at f =
-    let j : Judged = judge seven f (sign_of (character seven b)) in
-    omega (arith, within_step (length rest) (walk seven rest (at + 1)) (marks-within seven rest (at + 1)) f at j)
+pub marks-within : (t : CodeTable) (seven : Bool) (line : List ℕ) (at : ℕ) (f : Field) → length (walk t seven line at f).marks ≤ length line
+marks-within t seven [] at f = omega arith
+marks-within t seven (b ∷ rest) at f =
+    let j : Judged = judge seven f (sign_of t (character seven b)) in
+    omega (arith, within_step (length rest) (walk t seven rest (at + 1)) (marks-within t seven rest (at + 1)) f at j)

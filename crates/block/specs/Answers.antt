@@ -11,7 +11,8 @@ use Rattle.block.specs.declared.ReadRefusal.TheVariants as reading
 use Rattle.block.specs.declared.Block.{Block}
 use Rattle.block.specs.declared.WriteRefusal.{WriteRefusal}
 use Rattle.block.specs.declared.WriteRefusal.TheVariants as writing
-use Rattle.block.specs.Signs.{end_byte}
+use Rattle.block.specs.declared.Code.{Code}
+use Rattle.block.specs.Signs.{koi7, table_of, end_byte}
 use Rattle.block.specs.Read as reads
 use Rattle.block.specs.Write as writes
 
@@ -29,7 +30,12 @@ pub data Numbers : Type 0 where
   line : ℕ → Numbers
   refused : ℕ → ℕ → Numbers
 
+-- an end sign goes by its value in KOI-7, under either code
+abbrev pub end_number : EndSign → ℕ
+end_number e = end_byte koi7 e
+
 abbrev pub read_number : ReadRefusal → ℕ
+read_number reading.CodeNotCarried = 58
 read_number reading.TooLong = 11
 read_number (reading.WrongParity at) = 12
 read_number reading.NoStart = 13
@@ -43,6 +49,7 @@ read_number reading.WrongDiagonal = 54
 read_number (reading.OutputShort needed) = 19
 
 abbrev pub read_value : ReadRefusal → ℕ
+read_value reading.CodeNotCarried = 0
 read_value reading.TooLong = 0
 read_value (reading.WrongParity at) = at.0
 read_value reading.NoStart = 0
@@ -56,10 +63,11 @@ read_value reading.WrongDiagonal = 0
 read_value (reading.OutputShort needed) = needed
 
 abbrev pub of_read : Result Block ReadRefusal → Numbers
-of_read (Ok b) = block (shape_number b.shape) (end_byte b.end) b.header b.text b.counted
+of_read (Ok b) = block (shape_number b.shape) (end_number b.end) b.header b.text b.counted
 of_read (Err r) = refused (read_number r) (read_value r)
 
 abbrev pub write_number : WriteRefusal → ℕ
+write_number writing.CodeNotCarried = 58
 write_number writing.NotCarried = 1
 write_number (writing.HeaderByte at) = 2
 write_number (writing.TextByte at) = 3
@@ -68,6 +76,7 @@ write_number writing.TooManyCounted = 5
 write_number (writing.OutputShort needed) = 6
 
 abbrev pub write_value : WriteRefusal → ℕ
+write_value writing.CodeNotCarried = 0
 write_value writing.NotCarried = 0
 write_value (writing.HeaderByte at) = at.0
 write_value (writing.TextByte at) = at.0
@@ -81,7 +90,7 @@ of_written (Err r) = refused (write_number r) (write_value r)
 
 -- the rules' answers in the same numbers
 abbrev pub of_read_answer : reads.ReadAnswer → Numbers
-of_read_answer (reads.taken b) = block (shape_number b.shape) (end_byte b.end) (length b.header) (length b.text) b.counted
+of_read_answer (reads.taken b) = block (shape_number b.shape) (end_number b.end) (length b.header) (length b.text) b.counted
 of_read_answer (reads.refusal number value) = refused number value
 
 abbrev pub of_write_answer : writes.WriteAnswer → Numbers
@@ -93,11 +102,11 @@ of_write_answer (writes.refusal number value) = refused number value
 abbrev pub after_reading : reads.ReadAnswer → List ℕ → Call Numbers
 after_reading answer out = called (of_read_answer answer) (reads.read_output answer out)
 
-abbrev pub read_call : Method → Parity → List ℕ → List ℕ → Call Numbers
-read_call m p bytes out = after_reading (reads.read_block m p bytes (length out)) out
+abbrev pub read_call : Code → Method → Parity → List ℕ → List ℕ → Call Numbers
+read_call c m p bytes out = after_reading (reads.read_block (table_of c) m p bytes (length out)) out
 
 abbrev pub after_writing : writes.WriteAnswer → List ℕ → Call Numbers
 after_writing answer out = called (of_write_answer answer) (writes.write_output answer out)
 
-abbrev pub write_call : Method → Parity → Shape → EndSign → List ℕ → List ℕ → List ℕ → Call Numbers
-write_call m p s e head body out = after_writing (writes.write_block m p s e head body (length out)) out
+abbrev pub write_call : Code → Method → Parity → Shape → EndSign → List ℕ → List ℕ → List ℕ → Call Numbers
+write_call c m p s e head body out = after_writing (writes.write_block (table_of c) m p s e head body (length out)) out

@@ -1,5 +1,5 @@
 -- Characters and their parity (document 01, part 1; 003 par. 1.1). Assumes nothing.
-use Rattle.std.specs.Prelude.{ℕ, ◌+◌, ◌%◌, Bool, true, false, cond}
+use Rattle.std.specs.Prelude.{ℕ, ◌+◌, ◌%◌, Bool, true, false, cond, not, ◌||◌}
 use Rattle.std.specs.Bool.{beq, xor}
 use Rattle.bits.specs.Strings.{parity}
 use Rattle.bits.specs.Bytes.{low_bits}
@@ -7,6 +7,7 @@ use Rattle.block.specs.declared.Method.{Method}
 use Rattle.block.specs.declared.Method.TheVariants as method
 use Rattle.block.specs.declared.Parity.{Parity}
 use Rattle.block.specs.declared.Parity.TheVariants.{Even, Odd}
+use Rattle.block.specs.Signs.{CodeTable}
 
 -- methods 1, 2 and 7 carry seven-bit characters, 3 and 4 eight-bit bytes
 abbrev pub is_seven : Method → Bool
@@ -15,6 +16,10 @@ is_seven method.Matrix = true
 is_seven method.Cyclic = false
 is_seven method.CyclicAlternative = false
 is_seven method.Diagonal = true
+
+-- a code of eight bits has no characters of seven
+abbrev pub carries : CodeTable → Method → Bool
+carries t m = t.seven_bit || not (is_seven m)
 
 -- the character of a byte on the line
 unfoldable pub character : Bool → ℕ → ℕ

@@ -1,5 +1,5 @@
--- Reading a block: questions 11 to 15, 52, 53, 17, 18, 54 and 19 in turn (document 01, "Questions before a line is taken"; document 02,
--- cards 3 and 5). Assumes nothing.
+-- Reading a block: questions 58, 11 to 15, 52, 53, 17, 18, 54 and 19 in turn (document 01, "Questions before a line is taken";
+-- document 02, cards 3, 5 and 7). Assumes nothing.
 use Rattle.std.specs.Prelude.{ℕ, ◌+◌, Bool, true, false, cond, List, [], ◌∷◌, ◌++◌, leb, length, take, drop}
 use Rattle.bits.specs.Strings.{same}
 use Rattle.bits.specs.Bytes.{bits_of}
@@ -11,7 +11,8 @@ use Rattle.block.specs.declared.EndSign.{EndSign}
 use Rattle.block.specs.declared.Mark.{Mark}
 use Rattle.block.specs.declared.Field.{Field}
 use Rattle.block.specs.declared.Field.TheVariants.{Start}
-use Rattle.block.specs.Characters.{is_seven, parity_right}
+use Rattle.block.specs.Signs.{CodeTable}
+use Rattle.block.specs.Characters.{is_seven, carries, parity_right}
 use Rattle.block.specs.Walk.{Stop, ended, refused, Walked, walk}
 use Rattle.block.specs.Marks.{counted, header, text, check_bytes, left_out, LeftOutByte, has_inner, shape_of}
 use Rattle.block.specs.Check.{check_of, check_length}
@@ -43,11 +44,12 @@ ask_end m line ks (ended f e) =
 abbrev pub ask_walk : Method → List ℕ → Walked → Framed
 ask_walk m line w = ask_end m line w.marks w.stop
 
--- 11 to 15, 52, 53 and 17
-unfoldable pub framed : Method → Parity → List ℕ → Framed
-framed m p line =
-    ask (leb (length line) line_limit) 11 0
-    (cond (is_seven m) (ask_parities p line 0 (ask_walk m line (walk (is_seven m) line 0 Start))) (ask_walk m line (walk (is_seven m) line 0 Start)))
+-- 58, 11 to 15, 52, 53 and 17
+unfoldable pub framed : CodeTable → Method → Parity → List ℕ → Framed
+framed t m p line =
+    ask (carries t m) 58 0
+    (ask (leb (length line) line_limit) 11 0
+    (cond (is_seven m) (ask_parities p line 0 (ask_walk m line (walk t (is_seven m) line 0 Start))) (ask_walk m line (walk t (is_seven m) line 0 Start))))
 
 -- a line has a framing where all of these are passed
 pub data Framing : Type 0 where
@@ -58,8 +60,8 @@ abbrev pub framing_by : List ℕ → Framed → Framing
 framing_by line (found ks f e) = framing (left_out 0 ks line)
 framing_by line (unframed number value) = none
 
-unfoldable pub framing_of : Method → Parity → List ℕ → Framing
-framing_of m p line = framing_by line (framed m p line)
+unfoldable pub framing_of : CodeTable → Method → Parity → List ℕ → Framing
+framing_of t m p line = framing_by line (framed t m p line)
 
 -- what an accepted block holds
 pub record Parts : Type 0 where
@@ -119,8 +121,8 @@ ask_check m p line room (unframed number value) = refusal number value
 ask_check m p line room (found ks f e) =
     ask_same m (bits_of (check_bytes ks line)) (check_of m p (counted ks line)) (ask_room (parts_of m line ks f e) room)
 
-unfoldable pub read_block : Method → Parity → List ℕ → ℕ → ReadAnswer
-read_block m p line room = ask_check m p line room (framed m p line)
+unfoldable pub read_block : CodeTable → Method → Parity → List ℕ → ℕ → ReadAnswer
+read_block t m p line room = ask_check m p line room (framed t m p line)
 
 -- the output afterwards: header, then text, then what stood there; after a refusal all of what stood there
 unfoldable pub read_output : ReadAnswer → List ℕ → List ℕ

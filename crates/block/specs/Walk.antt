@@ -9,7 +9,7 @@ use Rattle.block.specs.declared.Field.{Field}
 use Rattle.block.specs.declared.Field.TheVariants.{Start, StartDle, Header, HeaderDle, Text, Clear, ClearDle}
 use Rattle.block.specs.declared.Judged.{Judged}
 use Rattle.block.specs.declared.Judged.TheVariants.{Is, Ends, NoStart, OutOfPlace, DleOutOfPlace}
-use Rattle.block.specs.Signs.{Sign, soh, stx, etx, dle, syn, etb, us, other, sign_of}
+use Rattle.block.specs.Signs.{CodeTable, Sign, soh, stx, etx, dle, syn, etb, us, other, sign_of}
 use Rattle.block.specs.Characters.{character}
 
 -- the start, left out: SOH, STX or, in methods 3 and 4, DLE STX. SYN ahead of it is left out too (document 02, card 1)
@@ -132,6 +132,6 @@ onward go f at OutOfPlace = halt (refused 14 at)
 onward go f at DleOutOfPlace = halt (refused 14 (at - 1))
 
 -- the walk over what is left of a line, from the place `at` on, in field f; `seven`: methods 1, 2 and 7
-abbrev pub walk : Bool → List ℕ → ℕ → Field → Walked
-walk seven [] at f = halt (cut f)
-walk seven (b ∷ rest) at f = onward (walk seven rest (at + 1)) f at (judge seven f (sign_of (character seven b)))
+abbrev pub walk : CodeTable → Bool → List ℕ → ℕ → Field → Walked
+walk t seven [] at f = halt (cut f)
+walk t seven (b ∷ rest) at f = onward (walk t seven rest (at + 1)) f at (judge seven f (sign_of t (character seven b)))

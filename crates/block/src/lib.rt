@@ -1,7 +1,7 @@
-// Blocks of methods 1 to 4 and 7 (003 par. 1.2, 1.3 and 2.1, 000; document 01, parts 1 and 3; document 02, card 5): the types of the block calls, and in specs/
-// the rules of reading and writing, by which `read_block` (crate block_reader) and `write_block` (crate block_writer) answer. The
-// functions here are what more than one of the crates above uses; each takes every input, and its contract gives the result by
-// the rules.
+// Blocks of methods 1 to 4 and 7 (003 par. 1.2, 1.3 and 2.1, 000; document 01, parts 1 and 3; document 02, cards 5 and 7): the types of
+// the block calls, and in specs/ the rules of reading and writing, by which `read_block` (crate block_reader) and `write_block` (crate
+// block_writer) answer. The functions here are what more than one of the crates above uses; each takes every input, and its contract
+// gives the result by the rules.
 #![tactic(auto)]
 
 // Methods 1 to 4, and 7, the matrix with the diagonal character.
@@ -21,11 +21,19 @@ pub enum Parity {
     Odd,
 }
 
+// The code of the characters. In DKOI the signs SYN and ETB have other values.
+#[derive(Clone, Copy)]
+pub enum Code {
+    Koi7,
+    Dkoi,
+}
+
 // What a link has agreed. Methods 3 and 4 do without the parity.
 #[derive(Clone, Copy)]
 pub struct Link {
     pub method: Method,
     pub parity: Parity,
+    pub code: Code,
 }
 
 // Shapes 1 to 5. Clear text is document 01's word for transparent text.
@@ -70,6 +78,8 @@ pub struct Block {
 
 #[derive(Clone, Copy)]
 pub enum ReadRefusal {
+    // 58: DKOI under method 1, 2 or 7
+    CodeNotCarried,
     // 11: more than 16,384 bytes
     TooLong,
     // 12: the first byte whose parity is wrong
@@ -96,6 +106,8 @@ pub enum ReadRefusal {
 
 #[derive(Clone, Copy)]
 pub enum WriteRefusal {
+    // 58: DKOI under method 1, 2 or 7
+    CodeNotCarried,
     // 1: the method does not carry the shape
     NotCarried,
     // 2: a reserved byte, or one from 80 on in methods 1, 2 and 7
@@ -150,4 +162,6 @@ mod signs;
 pub use check::{check_length, sum_slice};
 pub use limits::{COUNTED_LIMIT, LINE_LIMIT};
 pub use shapes::is_clear;
-pub use signs::{DLE, ETB, ETX, GREATEST_SIGN, SOH, STX, SYN, US, character, is_seven};
+pub use signs::{
+    DLE, ETB, ETX, SOH, STX, SYN, US, carries, character, end_byte, in_koi7, is_seven, syn,
+};

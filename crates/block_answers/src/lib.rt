@@ -14,6 +14,7 @@ fn read_refusal(refusal: ReadRefusal) -> ValueNumbers
     ensures { result ≡ value_numbers (read_number refusal) (read_value refusal) }
 {
     match refusal {
+        ReadRefusal::CodeNotCarried => numbers(58, 0),
         ReadRefusal::TooLong => numbers(11, 0),
         ReadRefusal::WrongParity(at) => numbers(12, at.0),
         ReadRefusal::NoStart => numbers(13, 0),
@@ -63,6 +64,7 @@ fn write_refusal(refusal: WriteRefusal) -> ValueNumbers
     ensures { result ≡ value_numbers (write_number refusal) (write_value refusal) }
 {
     match refusal {
+        WriteRefusal::CodeNotCarried => numbers(58, 0),
         WriteRefusal::NotCarried => numbers(1, 0),
         WriteRefusal::HeaderByte(at) => numbers(2, at.0),
         WriteRefusal::TextByte(at) => numbers(3, at.0),

@@ -1,12 +1,13 @@
 // The number that a check adds up over bytes. The methods are a closed list, and each match shows its five cases side by side, as the
 // papers do; a trait with a type for each method would spread them.
 ghost use Rattle.std.specs.Prelude.{◌≡◌, false, [], ◌∷◌};
+ghost use Rattle.block.specs.Signs.{table_of};
 ghost use Rattle.block.specs.Characters.{is_seven};
 ghost use Rattle.block_framing.specs.Framings.{kept_bytes};
 ghost use Rattle.block_segments.specs.Segment.{kept_in};
 ghost use Rattle.block_check.specs.Numbers.{start_of, number_after};
 
-use block::{Method, sum_slice};
+use block::{Code, Method, sum_slice};
 use block_diagonals::{add_both, add_both_kept};
 use block_register::enter_kept;
 use block_segments::{Segment, sum_kept};
@@ -63,15 +64,15 @@ pub fn add_run(m: Method, number: u16, run: &[u8]) -> u16
 }
 
 // What a segment keeps, added.
-fn add_kept(m: Method, number: u16, clear: bool, part: &[u8]) -> u16
-    ensures { result ≡ number_after m number (kept_bytes clear (is_seven m) false part.now) }
+fn add_kept(m: Method, number: u16, code: Code, clear: bool, part: &[u8]) -> u16
+    ensures { result ≡ number_after m number (kept_bytes (table_of code) clear (is_seven m) false part.now) }
 {
     match m {
         Method::Parity => number,
-        Method::Matrix => number ^ (sum_kept(0, clear, part) as u16),
-        Method::Cyclic => enter_kept::<Ccitt16>(number, clear, part),
-        Method::CyclicAlternative => enter_kept::<Ibm16>(number, clear, part),
-        Method::Diagonal => add_both_kept(number, clear, part),
+        Method::Matrix => number ^ (sum_kept(0, code, clear, part) as u16),
+        Method::Cyclic => enter_kept::<Ccitt16>(number, code, clear, part),
+        Method::CyclicAlternative => enter_kept::<Ibm16>(number, code, clear, part),
+        Method::Diagonal => add_both_kept(number, code, clear, part),
     }
 }
 
@@ -82,5 +83,5 @@ pub fn add_segment(m: Method, number: u16, segment: &Segment<'_>) -> u16
     if segment.kept == segment.bytes.len() {
         return add_run(m, number, segment.bytes);
     }
-    add_kept(m, number, segment.clear, segment.bytes)
+    add_kept(m, number, segment.code, segment.clear, segment.bytes)
 }

@@ -3,11 +3,12 @@
 #![tactic(auto)]
 
 ghost use Rattle.std.specs.Prelude.{◌≡◌, false, true};
+ghost use Rattle.block.specs.Signs.{table_of};
 ghost use Rattle.block_framing.specs.Framings.{kept_bytes};
 ghost use Rattle.block_diagonals.specs.Sums.{sums_after, characters};
 
 use crate::turn::{turn_in, turn_slice};
-use block::{Parity, sum_slice};
+use block::{Code, Parity, sum_slice};
 use block_parity::with_parity;
 use block_segments::Keeping;
 
@@ -23,12 +24,12 @@ pub fn add_both(number: u16, part: &[u8]) -> u16
 }
 
 // What a segment keeps, added to both, byte by byte.
-pub fn add_both_kept(number: u16, clear: bool, part: &[u8]) -> u16
-    ensures { result ≡ sums_after number (kept_bytes clear true false part.now) }
+pub fn add_both_kept(number: u16, code: Code, clear: bool, part: &[u8]) -> u16
+    ensures { result ≡ sums_after number (kept_bytes (table_of code) clear true false part.now) }
 {
     let mut sums = (number / 256) as u8;
     let mut register = (number % 256) as u8;
-    let mut keeping = Keeping::new(clear, true);
+    let mut keeping = Keeping::new(code, clear, true);
     for b in part {
         if keeping.keeps(*b) {
             sums ^= *b;

@@ -4,7 +4,7 @@ use Rattle.block.specs.declared.Shape.{Shape}
 use Rattle.block.specs.declared.Shape.TheVariants as shape
 use Rattle.block.specs.declared.Field.{Field}
 use Rattle.block.specs.declared.Field.TheVariants.{Start, StartDle, Header, HeaderDle, Text, Clear, ClearDle}
-use Rattle.block.specs.Signs.{sign_of, is_syn}
+use Rattle.block.specs.Signs.{CodeTable, sign_of, is_syn}
 use Rattle.block.specs.Characters.{character}
 
 -- how many signs stand before a text, STX or DLE STX, and as many after it, DLE and the end sign; 0 where there is no text
@@ -23,5 +23,5 @@ shape_at signs has_inner =
     cond (eqb signs 0) shape.Header
     (cond has_inner (cond (eqb signs 1) shape.HeaderText shape.HeaderClearText) (cond (eqb signs 1) shape.Text shape.ClearText))
 
-unfoldable pub is_fill : Bool → ℕ → Bool
-is_fill seven b = is_syn (sign_of (character seven b))
+unfoldable pub is_fill : CodeTable → Bool → ℕ → Bool
+is_fill t seven b = is_syn (sign_of t (character seven b))

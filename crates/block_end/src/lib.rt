@@ -4,11 +4,12 @@
 
 ghost use Rattle.std.specs.Prelude.{◌≡◌};
 ghost use Rattle.block.specs.Walk as rule;
+ghost use Rattle.block.specs.Signs.{table_of};
 ghost use Rattle.block.specs.Answers.{read_number, read_value};
 ghost use Rattle.block.specs.Scan.{first_failing};
 ghost use Rattle.block_end.specs.Ends.{text_signs, shape_at, is_fill};
 
-use block::{Field, ReadRefusal, SYN, Shape, character};
+use block::{Code, Field, ReadRefusal, Shape, character, syn};
 use runs::{ByteTest, short_run};
 
 // The line ends before an end sign.
@@ -66,20 +67,21 @@ pub fn shape_at(signs: usize, has_inner: bool) -> Shape
 
 #[derive(Clone, Copy)]
 struct Fill {
+    code: Code,
     seven: bool,
 }
 
 impl ByteTest for Fill {
-    ghost passing = { λ test. is_fill test.seven };
+    ghost passing = { λ test. is_fill (table_of test.code) test.seven };
 
     fn passes(self, b: u8) -> bool {
-        character(self.seven, b) == SYN
+        character(self.seven, b) == syn(self.code)
     }
 }
 
 // How many SYN stand ahead of the start: mostly none.
-pub fn fill_ahead(seven: bool, line: &[u8]) -> usize
-    ensures { result ≡ first_failing (is_fill seven) 0 line.now }
+pub fn fill_ahead(code: Code, seven: bool, line: &[u8]) -> usize
+    ensures { result ≡ first_failing (is_fill (table_of code) seven) 0 line.now }
 {
-    short_run(Fill { seven }, line)
+    short_run(Fill { code, seven }, line)
 }

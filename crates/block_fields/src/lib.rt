@@ -1,9 +1,9 @@
-// What a character is in its field (document 01, part 3): `judge` has one match for each field, by the character's value. It takes
-// every input.
+// What a character is in its field (document 01, part 3): `judge` has one match for each field, by the character's place in KOI-7
+// (`in_koi7` of crate block). It takes every input.
 #![tactic(auto, using(block::proofs::NoSign::no_sign), unfolding(block::specs::Signs::sign_of))]
 
 ghost use Rattle.std.specs.Prelude.{◌≡◌};
-ghost use Rattle.block.specs.Signs.{sign_of, dle};
+ghost use Rattle.block.specs.Signs.{koi7, sign_of, dle};
 ghost use Rattle.block.specs.Walk as rule;
 
 use block::{DLE, ETB, ETX, EndSign, Field, Judged, Mark, SOH, STX, SYN, US};
@@ -30,7 +30,7 @@ fn dle_in_header(seven: bool) -> Judged
 }
 
 fn judge_start(seven: bool, c: u8) -> Judged
-    ensures { result ≡ rule.in_start seven (sign_of c) }
+    ensures { result ≡ rule.in_start seven (sign_of koi7 c) }
 {
     match c {
         SOH => Judged::Is(Mark::LeftOut, Field::Header),
@@ -46,7 +46,7 @@ fn judge_start(seven: bool, c: u8) -> Judged
 }
 
 fn judge_start_dle(c: u8) -> Judged
-    ensures { result ≡ rule.in_start_dle (sign_of c) }
+    ensures { result ≡ rule.in_start_dle (sign_of koi7 c) }
 {
     match c {
         SOH => Judged::NoStart,
@@ -62,7 +62,7 @@ fn judge_start_dle(c: u8) -> Judged
 }
 
 fn judge_header(seven: bool, c: u8) -> Judged
-    ensures { result ≡ rule.in_header seven (sign_of c) }
+    ensures { result ≡ rule.in_header seven (sign_of koi7 c) }
 {
     match c {
         SOH => Judged::OutOfPlace,
@@ -78,7 +78,7 @@ fn judge_header(seven: bool, c: u8) -> Judged
 }
 
 fn judge_header_dle(c: u8) -> Judged
-    ensures { result ≡ rule.in_header_dle (sign_of c) }
+    ensures { result ≡ rule.in_header_dle (sign_of koi7 c) }
 {
     match c {
         SOH => Judged::DleOutOfPlace,
@@ -94,7 +94,7 @@ fn judge_header_dle(c: u8) -> Judged
 }
 
 fn judge_text(c: u8) -> Judged
-    ensures { result ≡ rule.in_text (sign_of c) }
+    ensures { result ≡ rule.in_text (sign_of koi7 c) }
 {
     match c {
         SOH => Judged::OutOfPlace,
@@ -110,7 +110,7 @@ fn judge_text(c: u8) -> Judged
 }
 
 fn judge_clear(c: u8) -> Judged
-    ensures { result ≡ rule.in_clear (sign_of c) }
+    ensures { result ≡ rule.in_clear (sign_of koi7 c) }
 {
     match c {
         SOH => Judged::Is(Mark::TextByte, Field::Clear),
@@ -126,7 +126,7 @@ fn judge_clear(c: u8) -> Judged
 }
 
 fn judge_clear_dle(c: u8) -> Judged
-    ensures { result ≡ rule.in_clear_dle (sign_of c) }
+    ensures { result ≡ rule.in_clear_dle (sign_of koi7 c) }
 {
     match c {
         SOH => Judged::DleOutOfPlace,
@@ -142,7 +142,7 @@ fn judge_clear_dle(c: u8) -> Judged
 }
 
 pub fn judge(seven: bool, f: Field, c: u8) -> Judged
-    ensures { result ≡ rule.judge seven f (sign_of c) }
+    ensures { result ≡ rule.judge seven f (sign_of koi7 c) }
 {
     match f {
         Field::Start => judge_start(seven, c),

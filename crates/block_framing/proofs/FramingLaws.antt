@@ -13,6 +13,7 @@ use Rattle.block.specs.declared.Mark.{Mark}
 use Rattle.block.specs.declared.Mark.TheVariants.{LeftOut, HeaderByte, TextByte, InnerStart, End}
 use Rattle.block.specs.declared.Field.{Field}
 use Rattle.block.specs.declared.Field.TheVariants.{Start, StartDle, Header, HeaderDle, Text, Clear, ClearDle}
+use Rattle.block.specs.Signs.{CodeTable}
 use Rattle.block.specs.Walk.{ended, walk}
 use Rattle.block.specs.Marks.{is_header, is_text, sift, counted, has_inner, shape_of}
 use Rattle.block.specs.Write.{is_clear}
@@ -31,7 +32,7 @@ slice_at a b c f t p q =
 
 -- a line behind `at` SYN taken apart as a framing f says: start, header, inner start, text, the last DLE of clear text, end sign,
 -- and what stands after it
-record Split (seven : Bool) (at : ℕ) (line : List ℕ) (ks : List Mark) (f : Segments) : Type 0 where
+record Split (table : CodeTable) (seven : Bool) (at : ℕ) (line : List ℕ) (ks : List Mark) (f : Segments) : Type 0 where
   front : List ℕ
   hs : List ℕ
   is : List ℕ
@@ -45,11 +46,11 @@ record Split (seven : Bool) (at : ℕ) (line : List ℕ) (ks : List Mark) (f : S
   body : f.body ≡ at + length front + length hs + length is
   tail : f.tail ≡ at + length front + length hs + length is + length ts
   after : f.after ≡ at + length front + length hs + length is + length ts + length lead + 1
-  headers : sift is_header ks line ≡ kept_bytes false seven false hs
-  texts : sift is_text ks line ≡ kept_bytes (is_clear f.shape) seven false ts
-  counts : counted ks line ≡ kept_bytes false seven false hs ++ (is ++ (kept_bytes (is_clear f.shape) seven false ts ++ stop ∷ []))
+  headers : sift is_header ks line ≡ kept_bytes table false seven false hs
+  texts : sift is_text ks line ≡ kept_bytes table (is_clear f.shape) seven false ts
+  counts : counted ks line ≡ kept_bytes table false seven false hs ++ (is ++ (kept_bytes table (is_clear f.shape) seven false ts ++ stop ∷ []))
 
-module _ (seven : Bool) (line : List ℕ) (ks : List Mark) (f : Segments) (p : Split seven 0 line ks f) where
+module _ (table : CodeTable) (seven : Bool) (line : List ℕ) (ks : List Mark) (f : Segments) (p : Split table seven 0 line ks f) where
   split_length : length line ≡ f.after + length p.rest
   split_length = ap length p.split ∙ simp length-append (omega (arith, p.after))
 
@@ -79,7 +80,7 @@ module _ (seven : Bool) (line : List ℕ) (ks : List Mark) (f : Segments) (p : S
       let size : length before ≡ f.after - 1 = simp length-append (omega (arith, p.after)) in
       ap (λ l. get_or l (f.after - 1) 0) split ∙ get_or_at before p.stop p.rest 0 (f.after - 1) size
 
-  split_segmented : Segmented seven line ks f
+  split_segmented : Segmented table seven line ks f
   unfolding header_in text_in counted_in
   split_segmented =
       record {
@@ -91,17 +92,17 @@ module _ (seven : Bool) (line : List ℕ) (ks : List Mark) (f : Segments) (p : S
               end = omega arith;
               within = omega (arith, split_length);
             };
-        headers = p.headers ∙ ap (kept_bytes false seven false) (sym split_header);
-        texts = p.texts ∙ ap (kept_bytes (is_clear f.shape) seven false) (sym split_text);
+        headers = p.headers ∙ ap (kept_bytes table false seven false) (sym split_header);
+        texts = p.texts ∙ ap (kept_bytes table (is_clear f.shape) seven false) (sym split_text);
         counts = rw (split_header, split_inner, split_text, split_stop) p.counts;
       }
 
 -- ---- the framing of each line
 
-plain_split : (seven : Bool) (at b : ℕ) (l : List ℕ) (ks : List Mark) (e : EndSign) (t : Tally) → Part false seven false l ks
-    → {size : ℕ} → size ≡ at + length (LeftOut ∷ ks) → Split seven at (b ∷ l) (LeftOut ∷ ks) (segments shape.Text e t size (at + 1) (at + 1) (at + 1) (size - 1))
+plain_split : (table : CodeTable) (seven : Bool) (at b : ℕ) (l : List ℕ) (ks : List Mark) (e : EndSign) (t : Tally) → Part table false seven false l ks
+    → {size : ℕ} → size ≡ at + length (LeftOut ∷ ks) → Split table seven at (b ∷ l) (LeftOut ∷ ks) (segments shape.Text e t size (at + 1) (at + 1) (at + 1) (size - 1))
 unfolding kept_bytes
-plain_split seven at b l ks e t p h =
+plain_split table seven at b l ks e t p h =
     record {
       front = b ∷ [];
       hs = [];
@@ -121,11 +122,11 @@ plain_split seven at b l ks e t p h =
       counts = p.counts;
     }
 
-clear_split : (seven : Bool) (at b c : ℕ) (l : List ℕ) (ks : List Mark) (e : EndSign) (t : Tally) → Part true seven false l ks
+clear_split : (table : CodeTable) (seven : Bool) (at b c : ℕ) (l : List ℕ) (ks : List Mark) (e : EndSign) (t : Tally) → Part table true seven false l ks
     → {size : ℕ} → size ≡ at + length (LeftOut ∷ LeftOut ∷ ks)
-    → Split seven at (b ∷ c ∷ l) (LeftOut ∷ LeftOut ∷ ks) (segments shape.ClearText e t size (at + 2) (at + 2) (at + 2) (size - 2))
+    → Split table seven at (b ∷ c ∷ l) (LeftOut ∷ LeftOut ∷ ks) (segments shape.ClearText e t size (at + 2) (at + 2) (at + 2) (size - 2))
 unfolding kept_bytes
-clear_split seven at b c l ks e t p h =
+clear_split table seven at b c l ks e t p h =
     record {
       front = b ∷ c ∷ [];
       hs = [];
@@ -155,9 +156,9 @@ record Placed (isClearText : Bool) (at wide n size : ℕ) (f : Segments) : Type 
   after : f.after ≡ size
   clear : is_clear f.shape ≡ isClearText
 
-headed_split : (seven : Bool) (f : Field) (at b : ℕ) (l : List ℕ) (ks : List Mark) (p : Headed seven f l ks) (g : Segments)
-    → {size : ℕ} → size ≡ at + length (LeftOut ∷ ks) → Placed p.clear at p.wide (length p.head) size g → Split seven at (b ∷ l) (LeftOut ∷ ks) g
-headed_split seven f at b l ks p g z h =
+headed_split : (table : CodeTable) (seven : Bool) (f : Field) (at b : ℕ) (l : List ℕ) (ks : List Mark) (p : Headed table seven f l ks) (g : Segments)
+    → {size : ℕ} → size ≡ at + length (LeftOut ∷ ks) → Placed p.clear at p.wide (length p.head) size g → Split table seven at (b ∷ l) (LeftOut ∷ ks) g
+headed_split table seven f at b l ks p g z h =
     record {
       front = b ∷ [];
       hs = p.head;
@@ -174,7 +175,7 @@ headed_split seven f at b l ks p g z h =
       after = omega (arith, h.after, p.inners, p.size, p.part.size, p.part.leads);
       headers = p.headers;
       texts = rw h.clear (p.texts ∙ p.part.texts);
-      counts = rw h.clear (p.counts ∙ ap (λ z. kept_bytes false seven false p.head ++ (p.inner ++ z)) p.part.counts);
+      counts = rw h.clear (p.counts ∙ ap (λ z. kept_bytes table false seven false p.head ++ (p.inner ++ z)) p.part.counts);
     }
 
 kind_placed : (f : Field) (c : Bool) (at wide n size : ℕ) (e : EndSign) (t : Tally) → Kind f c wide
@@ -201,9 +202,9 @@ unfolding framing_at
 clear_framing at e t n h = rw h
 
 -- one SYN more ahead of the line
-filled_split : (seven : Bool) (at b : ℕ) (l : List ℕ) (ks : List Mark) (g : Segments) → Split seven (at + 1) l ks g
-    → Split seven at (b ∷ l) (LeftOut ∷ ks) g
-filled_split seven at b l ks g p =
+filled_split : (table : CodeTable) (seven : Bool) (at b : ℕ) (l : List ℕ) (ks : List Mark) (g : Segments) → Split table seven (at + 1) l ks g
+    → Split table seven at (b ∷ l) (LeftOut ∷ ks) g
+filled_split table seven at b l ks g p =
     record {
       front = b ∷ p.front;
       hs = p.hs;
@@ -224,37 +225,37 @@ filled_split seven at b l ks g p =
     }
 
 -- of a line behind `at` SYN, with n of its own, so that the start stands at `start` and `size` bytes go up to and with the end sign
-line_split : (seven : Bool) (f : Field) (n at : ℕ) (line : List ℕ) (ks : List Mark) (e : EndSign) → Line seven f n line ks → (start size : ℕ)
-    → start ≡ at + n → size ≡ at + length ks → Split seven at line ks (framing_at start f e (tallied no_tally at ks) size)
-line_split seven f n at line ks e (plain b l ms p) start size h k =
+line_split : (table : CodeTable) (seven : Bool) (f : Field) (n at : ℕ) (line : List ℕ) (ks : List Mark) (e : EndSign) → Line table seven f n line ks → (start size : ℕ)
+    → start ≡ at + n → size ≡ at + length ks → Split table seven at line ks (framing_at start f e (tallied no_tally at ks) size)
+line_split table seven f n at line ks e (plain b l ms p) start size h k =
     let t : Tally = tallied no_tally (at + 1) ms in
     let i : start ≡ at = omega (arith, h) in
-    subst (Split seven at (b ∷ l) (LeftOut ∷ ms))
+    subst (Split table seven at (b ∷ l) (LeftOut ∷ ms))
     (sym (ap (λ z. framing_at z Text e t size) i ∙ plain_framing at e t size (inner_kept no_tally (at + 1) ms p.inner)))
-    (plain_split seven at b l ms e t p k)
-line_split seven f n at line ks e (clear b c l ms p) start size h k =
+    (plain_split table seven at b l ms e t p k)
+line_split table seven f n at line ks e (clear b c l ms p) start size h k =
     let t : Tally = tallied no_tally (at + 1 + 1) ms in
     let i : start ≡ at = omega (arith, h) in
-    subst (Split seven at (b ∷ c ∷ l) (LeftOut ∷ LeftOut ∷ ms))
+    subst (Split table seven at (b ∷ c ∷ l) (LeftOut ∷ LeftOut ∷ ms))
     (sym (ap (λ z. framing_at z ClearDle e t size) i ∙ clear_framing at e t size (inner_kept no_tally (at + 1 + 1) ms p.inner)))
-    (clear_split seven at b c l ms e t p k)
-line_split seven f n at line ks e (headed g b l ms p) start size h k =
+    (clear_split table seven at b c l ms e t p k)
+line_split table seven f n at line ks e (headed g b l ms p) start size h k =
     let t : Tally = tallied no_tally (at + 1) ms in
     let i : start ≡ at = omega (arith, h) in
-    subst (Split seven at (b ∷ l) (LeftOut ∷ ms)) (sym (ap (λ z. framing_at z g e t size) i))
-    (headed_split seven g at b l ms p (framing_at at g e t size) k
+    subst (Split table seven at (b ∷ l) (LeftOut ∷ ms)) (sym (ap (λ z. framing_at z g e t size) i))
+    (headed_split table seven g at b l ms p (framing_at at g e t size) k
     (kind_placed g p.clear at p.wide (length p.head) size e t p.kind (p.place no_tally (at + 1) refl (omega arith))
     (λ z. omega (arith, p.size, p.alone z))))
-line_split seven f n at line ks e (filled g m b l ms p) start size h k =
-    filled_split seven at b l ms _ (line_split seven g m (at + 1) l ms e p start size (omega (arith, h)) (omega (arith, k)))
+line_split table seven f n at line ks e (filled g m b l ms p) start size h k =
+    filled_split table seven at b l ms _ (line_split table seven g m (at + 1) l ms e p start size (omega (arith, h)) (omega (arith, k)))
 
 -- a walk that ends at an end sign has a framing that finds what the marks say
-pub segmented : (seven : Bool) (line : List ℕ) (ks : List Mark) (f : Field) (e : EndSign)
-    → walk seven line 0 Start ≡ record { marks = ks; stop = ended f e }
-    → Segmented seven line ks (framing_at (start_of seven line) f e (tallied no_tally 0 ks) (length ks))
-segmented seven line ks f e h =
-    split_segmented seven line ks _
-    (line_split seven f (start_of seven line) 0 line ks e (line_of_lem seven line ks f e h) (start_of seven line) (length ks) (omega arith) (omega arith))
+pub segmented : (table : CodeTable) (seven : Bool) (line : List ℕ) (ks : List Mark) (f : Field) (e : EndSign)
+    → walk table seven line 0 Start ≡ record { marks = ks; stop = ended f e }
+    → Segmented table seven line ks (framing_at (start_of table seven line) f e (tallied no_tally 0 ks) (length ks))
+segmented table seven line ks f e h =
+    split_segmented table seven line ks _
+    (line_split table seven f (start_of table seven line) 0 line ks e (line_of_lem table seven line ks f e h) (start_of table seven line) (length ks) (omega arith) (omega arith))
 
 -- ---- the shape
 
@@ -264,14 +265,14 @@ zero_by true n m has p q = rw (p, q)
 zero_by false n m has p q = not-zero n m p ∙ ap not (sym q)
 
 -- the place of the inner start is 0 just where there was none
-inner_zero : (seven : Bool) (f : Field) (n at : ℕ) (line : List ℕ) (ks : List Mark) → Line seven f n line ks
+inner_zero : (table : CodeTable) (seven : Bool) (f : Field) (n at : ℕ) (line : List ℕ) (ks : List Mark) → Line table seven f n line ks
     → eqb (tallied no_tally at ks).inner 0 ≡ not (has_inner ks)
-inner_zero seven f n at line ks (plain b l ms p) = rw (inner_kept no_tally (at + 1) ms p.inner, p.inner)
-inner_zero seven f n at line ks (clear b c l ms p) = rw (inner_kept no_tally (at + 1 + 1) ms p.inner, p.inner)
-inner_zero seven f n at line ks (headed g b l ms p) =
+inner_zero table seven f n at line ks (plain b l ms p) = rw (inner_kept no_tally (at + 1) ms p.inner, p.inner)
+inner_zero table seven f n at line ks (clear b c l ms p) = rw (inner_kept no_tally (at + 1 + 1) ms p.inner, p.inner)
+inner_zero table seven f n at line ks (headed g b l ms p) =
     zero_by (eqb p.wide 0) (tallied no_tally (at + 1) ms).inner (at + length p.head) (has_inner ms)
     (p.place no_tally (at + 1) refl (omega arith) ∙ ap (cond (eqb p.wide 0) 0) (omega arith)) p.has
-inner_zero seven f n at line ks (filled g m b l ms p) = inner_zero seven g m (at + 1) l ms p
+inner_zero table seven f n at line ks (filled g m b l ms p) = inner_zero table seven g m (at + 1) l ms p
 
 shape_by : (start : ℕ) (f : Field) (e : EndSign) (t : Tally) (n : ℕ) (has : Bool) → eqb t.inner 0 ≡ not has
     → (framing_at start f e t n).shape ≡ shape_of has f
@@ -287,12 +288,12 @@ shape_by start ClearDle e t n true h = rw h
 shape_by start ClearDle e t n false h = rw h
 
 -- the framing has the shape that the marks say
-pub framing_shape : (seven : Bool) (line : List ℕ) (ks : List Mark) (f : Field) (e : EndSign)
-    → walk seven line 0 Start ≡ record { marks = ks; stop = ended f e }
-    → (framing_at (start_of seven line) f e (tallied no_tally 0 ks) (length ks)).shape ≡ shape_of (has_inner ks) f
-framing_shape seven line ks f e h =
-    shape_by (start_of seven line) f e (tallied no_tally 0 ks) (length ks) (has_inner ks)
-    (inner_zero seven f (start_of seven line) 0 line ks (line_of_lem seven line ks f e h))
+pub framing_shape : (table : CodeTable) (seven : Bool) (line : List ℕ) (ks : List Mark) (f : Field) (e : EndSign)
+    → walk table seven line 0 Start ≡ record { marks = ks; stop = ended f e }
+    → (framing_at (start_of table seven line) f e (tallied no_tally 0 ks) (length ks)).shape ≡ shape_of (has_inner ks) f
+framing_shape table seven line ks f e h =
+    shape_by (start_of table seven line) f e (tallied no_tally 0 ks) (length ks) (has_inner ks)
+    (inner_zero table seven f (start_of table seven line) 0 line ks (line_of_lem table seven line ks f e h))
 
 -- ---- the tally
 

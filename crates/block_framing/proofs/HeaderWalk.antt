@@ -15,7 +15,7 @@ use Rattle.block.specs.declared.Mark.{Mark}
 use Rattle.block.specs.declared.Mark.TheVariants.{LeftOut, HeaderByte, TextByte, InnerStart, End}
 use Rattle.block.specs.declared.Field.{Field}
 use Rattle.block.specs.declared.Field.TheVariants.{Start, StartDle, Header, HeaderDle, Text, Clear, ClearDle}
-use Rattle.block.specs.Signs.{Sign, soh, stx, etx, dle, syn, etb, us, other, sign_of, is_syn}
+use Rattle.block.specs.Signs.{CodeTable, Sign, soh, stx, etx, dle, syn, etb, us, other, sign_of, is_syn}
 use Rattle.block.specs.Characters.{character}
 use Rattle.block.specs.Walk.{in_start, in_start_dle, in_header, in_header_dle}
 use Rattle.block.specs.Walk.{ended, Walked, onward, walk}
@@ -81,7 +81,7 @@ pub data Kind : Field → Bool → ℕ → Type 0 where
 
 -- what is left of a line from its header on: `head`, the inner start, and a part with its marks; `place`: where the inner start
 -- stands; `lefts`: how many bytes were left out before it
-pub record Headed (seven : Bool) (f : Field) (l : List ℕ) (ks : List Mark) : Type 0 where
+pub record Headed (table : CodeTable) (seven : Bool) (f : Field) (l : List ℕ) (ks : List Mark) : Type 0 where
   pub clear : Bool
   pub wide : ℕ
   pub kind : Kind f clear wide
@@ -89,21 +89,21 @@ pub record Headed (seven : Bool) (f : Field) (l : List ℕ) (ks : List Mark) : T
   pub inner : List ℕ
   pub tail : List ℕ
   pub marks : List Mark
-  pub part : Part clear seven false tail marks
+  pub part : Part table clear seven false tail marks
   pub split : l ≡ head ++ (inner ++ tail)
   pub inners : length inner ≡ wide
   pub alone : wide ≡ 0 → length marks ≡ 1
   pub size : length ks ≡ length head + (wide + length marks)
-  pub headers : sift is_header ks l ≡ kept_bytes false seven false head
+  pub headers : sift is_header ks l ≡ kept_bytes table false seven false head
   pub texts : sift is_text ks l ≡ sift is_text marks tail
-  pub counts : counted ks l ≡ kept_bytes false seven false head ++ (inner ++ counted marks tail)
+  pub counts : counted ks l ≡ kept_bytes table false seven false head ++ (inner ++ counted marks tail)
   pub has : has_inner ks ≡ not (eqb wide 0)
   pub place : (t : Tally) (at : ℕ) → t.inner ≡ 0 → 0 < at → (tallied t at ks).inner ≡ cond (eqb wide 0) 0 (at + length head)
   pub lefts : (t : LeftOuts) (at : ℕ) → t.inner ≡ None → 0 < wide → before_of (leaves t at ks).inner + length (sift is_header ks l) ≡ t.all + length head
 
-headed_end : (seven : Bool) (f : Field) (b : ℕ) (rest : List ℕ) → f ≡ Header → Headed seven f (b ∷ rest) (End ∷ [])
+headed_end : (table : CodeTable) (seven : Bool) (f : Field) (b : ℕ) (rest : List ℕ) → f ≡ Header → Headed table seven f (b ∷ rest) (End ∷ [])
 unfolding kept_bytes
-headed_end seven f b rest g =
+headed_end table seven f b rest g =
     record {
       clear = false;
       wide = 0;
@@ -112,7 +112,7 @@ headed_end seven f b rest g =
       inner = [];
       tail = b ∷ rest;
       marks = End ∷ [];
-      part = part_end seven b rest;
+      part = part_end table seven b rest;
       split = refl;
       inners = refl;
       alone = λ z. refl;
@@ -125,10 +125,10 @@ headed_end seven f b rest g =
       lefts = λ t at z w. absurd (omega arith);
     }
 
-headed_plain : (seven : Bool) (f : Field) (b : ℕ) (l : List ℕ) (w : Walked) → Closed false seven Text f l w
-    → Headed seven f (b ∷ l) (InnerStart ∷ w.marks)
+headed_plain : (table : CodeTable) (seven : Bool) (f : Field) (b : ℕ) (l : List ℕ) (w : Walked) → Closed table false seven Text f l w
+    → Headed table seven f (b ∷ l) (InnerStart ∷ w.marks)
 unfolding kept_bytes
-headed_plain seven f b l w p =
+headed_plain table seven f b l w p =
     record {
       clear = false;
       wide = 1;
@@ -154,10 +154,10 @@ headed_plain seven f b l w p =
           omega (arith, k, ap length p.part.headers);
     }
 
-headed_clear : (f : Field) (b c : ℕ) (l : List ℕ) (w : Walked) → Closed true false ClearDle f l w
-    → Headed false f (b ∷ c ∷ l) (InnerStart ∷ InnerStart ∷ w.marks)
+headed_clear : (table : CodeTable) (f : Field) (b c : ℕ) (l : List ℕ) (w : Walked) → Closed table true false ClearDle f l w
+    → Headed table false f (b ∷ c ∷ l) (InnerStart ∷ InnerStart ∷ w.marks)
 unfolding kept_bytes
-headed_clear f b c l w p =
+headed_clear table f b c l w p =
     record {
       clear = true;
       wide = 2;
@@ -190,9 +190,9 @@ headed_clear f b c l w p =
     }
 
 -- one byte more in front
-module _ (seven : Bool) (f : Field) (l : List ℕ) (ks : List Mark) (p : Headed seven f l ks) where
-  headed_byte : (b : ℕ) → ((bs : List ℕ) → kept_bytes false seven false (b ∷ bs) ≡ b ∷ kept_bytes false seven false bs)
-      → Headed seven f (b ∷ l) (HeaderByte ∷ ks)
+module _ (table : CodeTable) (seven : Bool) (f : Field) (l : List ℕ) (ks : List Mark) (p : Headed table seven f l ks) where
+  headed_byte : (b : ℕ) → ((bs : List ℕ) → kept_bytes table false seven false (b ∷ bs) ≡ b ∷ kept_bytes table false seven false bs)
+      → Headed table seven f (b ∷ l) (HeaderByte ∷ ks)
   headed_byte b k =
       record {
         clear = p.clear;
@@ -215,8 +215,8 @@ module _ (seven : Bool) (f : Field) (l : List ℕ) (ks : List Mark) (p : Headed 
         lefts = λ t at z v. omega (arith, p.lefts t (at + 1) z v);
       }
 
-  headed_left_out : (b : ℕ) → ((bs : List ℕ) → kept_bytes false seven false (b ∷ bs) ≡ kept_bytes false seven false bs)
-      → Headed seven f (b ∷ l) (LeftOut ∷ ks)
+  headed_left_out : (b : ℕ) → ((bs : List ℕ) → kept_bytes table false seven false (b ∷ bs) ≡ kept_bytes table false seven false bs)
+      → Headed table seven f (b ∷ l) (LeftOut ∷ ks)
   headed_left_out b k =
       record {
         clear = p.clear;
@@ -240,11 +240,11 @@ module _ (seven : Bool) (f : Field) (l : List ℕ) (ks : List Mark) (p : Headed 
       }
 
 -- behind a DLE
-module _ (b c : ℕ) (rest : List ℕ) (at : ℕ) (f : Field) (e : EndSign) where
-  header_dle_step : (s : Sign) → (onward (walk false rest (at + 1)) HeaderDle at (in_header_dle s)).stop ≡ ended f e
-      → Headed false f (b ∷ c ∷ rest) (InnerStart ∷ (onward (walk false rest (at + 1)) HeaderDle at (in_header_dle s)).marks)
+module _ (table : CodeTable) (b c : ℕ) (rest : List ℕ) (at : ℕ) (f : Field) (e : EndSign) where
+  header_dle_step : (s : Sign) → (onward (walk table false rest (at + 1)) HeaderDle at (in_header_dle s)).stop ≡ ended f e
+      → Headed table false f (b ∷ c ∷ rest) (InnerStart ∷ (onward (walk table false rest (at + 1)) HeaderDle at (in_header_dle s)).marks)
   header_dle_step soh h = absurd (no_end h)
-  header_dle_step stx h = headed_clear f b c rest (walk false rest (at + 1) Clear) (clear_walk rest (at + 1) f e h)
+  header_dle_step stx h = headed_clear table f b c rest (walk table false rest (at + 1) Clear) (clear_walk table rest (at + 1) f e h)
   header_dle_step etx h = absurd (no_end h)
   header_dle_step dle h = absurd (no_end h)
   header_dle_step syn h = absurd (no_end h)
@@ -252,48 +252,48 @@ module _ (b c : ℕ) (rest : List ℕ) (at : ℕ) (f : Field) (e : EndSign) wher
   header_dle_step us h = absurd (no_end h)
   header_dle_step other h = absurd (no_end h)
 
-header_dle : (b : ℕ) (l : List ℕ) (at : ℕ) (f : Field) (e : EndSign) → (walk false l at HeaderDle).stop ≡ ended f e
-    → Headed false f (b ∷ l) (InnerStart ∷ (walk false l at HeaderDle).marks)
-header_dle b [] at f e h = absurd (no_end h)
-header_dle b (c ∷ rest) at f e h = header_dle_step b c rest at f e (sign_of (character false c)) h
+header_dle : (table : CodeTable) (b : ℕ) (l : List ℕ) (at : ℕ) (f : Field) (e : EndSign) → (walk table false l at HeaderDle).stop ≡ ended f e
+    → Headed table false f (b ∷ l) (InnerStart ∷ (walk table false l at HeaderDle).marks)
+header_dle table b [] at f e h = absurd (no_end h)
+header_dle table b (c ∷ rest) at f e h = header_dle_step table b c rest at f e (sign_of table (character false c)) h
 
-header-step : (seven : Bool) (b : ℕ) (rest : List ℕ) (at : ℕ) (f : Field) (e : EndSign)
-    → ((walk seven rest (at + 1) Header).stop ≡ ended f e → Headed seven f rest (walk seven rest (at + 1) Header).marks)
-    → (s : Sign) → sign_of (character seven b) ≡ s → (onward (walk seven rest (at + 1)) Header at (in_header seven s)).stop ≡ ended f e
-    → Headed seven f (b ∷ rest) (onward (walk seven rest (at + 1)) Header at (in_header seven s)).marks
-header-step seven b rest at f e ih soh q h = absurd (no_end h)
-header-step seven b rest at f e ih stx q h =
-    headed_plain seven f b rest (walk seven rest (at + 1) Text) (text-walk seven rest (at + 1) f e h)
-header-step seven b rest at f e ih etx q h = headed_end seven f b rest (cc)
-header-step true b rest at f e ih dle q h = absurd (no_end h)
-header-step false b rest at f e ih dle q h = header_dle b rest (at + 1) f e h
-header-step seven b rest at f e ih syn q h = headed_left_out seven f rest _ (ih h) b (λ bs. kept_plain seven b bs syn q)
-header-step seven b rest at f e ih etb q h = headed_end seven f b rest (cc)
-header-step seven b rest at f e ih us q h = headed_end seven f b rest (cc)
-header-step seven b rest at f e ih other q h = headed_byte seven f rest _ (ih h) b (λ bs. kept_plain seven b bs other q)
+header-step : (table : CodeTable) (seven : Bool) (b : ℕ) (rest : List ℕ) (at : ℕ) (f : Field) (e : EndSign)
+    → ((walk table seven rest (at + 1) Header).stop ≡ ended f e → Headed table seven f rest (walk table seven rest (at + 1) Header).marks)
+    → (s : Sign) → sign_of table (character seven b) ≡ s → (onward (walk table seven rest (at + 1)) Header at (in_header seven s)).stop ≡ ended f e
+    → Headed table seven f (b ∷ rest) (onward (walk table seven rest (at + 1)) Header at (in_header seven s)).marks
+header-step table seven b rest at f e ih soh q h = absurd (no_end h)
+header-step table seven b rest at f e ih stx q h =
+    headed_plain table seven f b rest (walk table seven rest (at + 1) Text) (text-walk table seven rest (at + 1) f e h)
+header-step table seven b rest at f e ih etx q h = headed_end table seven f b rest (cc)
+header-step table true b rest at f e ih dle q h = absurd (no_end h)
+header-step table false b rest at f e ih dle q h = header_dle table b rest (at + 1) f e h
+header-step table seven b rest at f e ih syn q h = headed_left_out table seven f rest _ (ih h) b (λ bs. kept_plain table seven b bs syn q)
+header-step table seven b rest at f e ih etb q h = headed_end table seven f b rest (cc)
+header-step table seven b rest at f e ih us q h = headed_end table seven f b rest (cc)
+header-step table seven b rest at f e ih other q h = headed_byte table seven f rest _ (ih h) b (λ bs. kept_plain table seven b bs other q)
 
-header-walk : (seven : Bool) (l : List ℕ) (at : ℕ) (f : Field) (e : EndSign) → (walk seven l at Header).stop ≡ ended f e
-    → Headed seven f l (walk seven l at Header).marks
-header-walk seven [] at f e h = absurd (no_end h)
-header-walk seven (b ∷ rest) at f e h =
-    header-step seven b rest at f e (header-walk seven rest (at + 1) f e) (sign_of (character seven b)) refl h
+header-walk : (table : CodeTable) (seven : Bool) (l : List ℕ) (at : ℕ) (f : Field) (e : EndSign) → (walk table seven l at Header).stop ≡ ended f e
+    → Headed table seven f l (walk table seven l at Header).marks
+header-walk table seven [] at f e h = absurd (no_end h)
+header-walk table seven (b ∷ rest) at f e h =
+    header-step table seven b rest at f e (header-walk table seven rest (at + 1) f e) (sign_of table (character seven b)) refl h
 
 -- ---- the walk over a line
 
 -- a line walked to an end sign in field f: text or clear text behind its start, or a header behind SOH; and as many SYN ahead of it
-pub data Line (seven : Bool) : Field → ℕ → List ℕ → List Mark → Type 0 where
-  plain : (b : ℕ) (l : List ℕ) (ks : List Mark) → Part false seven false l ks → Line seven Text 0 (b ∷ l) (LeftOut ∷ ks)
-  clear : (b c : ℕ) (l : List ℕ) (ks : List Mark) → Part true seven false l ks
-      → Line seven ClearDle 0 (b ∷ c ∷ l) (LeftOut ∷ LeftOut ∷ ks)
-  headed : (f : Field) (b : ℕ) (l : List ℕ) (ks : List Mark) → Headed seven f l ks → Line seven f 0 (b ∷ l) (LeftOut ∷ ks)
-  filled : (f : Field) (n b : ℕ) (l : List ℕ) (ks : List Mark) → Line seven f n l ks → Line seven f (n + 1) (b ∷ l) (LeftOut ∷ ks)
+pub data Line (table : CodeTable) (seven : Bool) : Field → ℕ → List ℕ → List Mark → Type 0 where
+  plain : (b : ℕ) (l : List ℕ) (ks : List Mark) → Part table false seven false l ks → Line table seven Text 0 (b ∷ l) (LeftOut ∷ ks)
+  clear : (b c : ℕ) (l : List ℕ) (ks : List Mark) → Part table true seven false l ks
+      → Line table seven ClearDle 0 (b ∷ c ∷ l) (LeftOut ∷ LeftOut ∷ ks)
+  headed : (f : Field) (b : ℕ) (l : List ℕ) (ks : List Mark) → Headed table seven f l ks → Line table seven f 0 (b ∷ l) (LeftOut ∷ ks)
+  filled : (f : Field) (n b : ℕ) (l : List ℕ) (ks : List Mark) → Line table seven f n l ks → Line table seven f (n + 1) (b ∷ l) (LeftOut ∷ ks)
 
-module _ (b c : ℕ) (rest : List ℕ) (at : ℕ) (f : Field) (e : EndSign) where
-  start_dle_step : (s : Sign) → (onward (walk false rest (at + 1)) StartDle at (in_start_dle s)).stop ≡ ended f e
-      → Line false f 0 (b ∷ c ∷ rest) (LeftOut ∷ (onward (walk false rest (at + 1)) StartDle at (in_start_dle s)).marks)
+module _ (table : CodeTable) (b c : ℕ) (rest : List ℕ) (at : ℕ) (f : Field) (e : EndSign) where
+  start_dle_step : (s : Sign) → (onward (walk table false rest (at + 1)) StartDle at (in_start_dle s)).stop ≡ ended f e
+      → Line table false f 0 (b ∷ c ∷ rest) (LeftOut ∷ (onward (walk table false rest (at + 1)) StartDle at (in_start_dle s)).marks)
   start_dle_step soh h = absurd (no_end h)
   start_dle_step stx h =
-      let w : Closed true false ClearDle f rest (walk false rest (at + 1) Clear) = clear_walk rest (at + 1) f e h in
+      let w : Closed table true false ClearDle f rest (walk table false rest (at + 1) Clear) = clear_walk table rest (at + 1) f e h in
       rw w.field (clear b c rest _ w.part)
   start_dle_step etx h = absurd (no_end h)
   start_dle_step dle h = absurd (no_end h)
@@ -302,34 +302,34 @@ module _ (b c : ℕ) (rest : List ℕ) (at : ℕ) (f : Field) (e : EndSign) wher
   start_dle_step us h = absurd (no_end h)
   start_dle_step other h = absurd (no_end h)
 
-start_dle : (b : ℕ) (l : List ℕ) (at : ℕ) (f : Field) (e : EndSign) → (walk false l at StartDle).stop ≡ ended f e
-    → Line false f 0 (b ∷ l) (LeftOut ∷ (walk false l at StartDle).marks)
-start_dle b [] at f e h = absurd (no_end h)
-start_dle b (c ∷ rest) at f e h = start_dle_step b c rest at f e (sign_of (character false c)) h
+start_dle : (table : CodeTable) (b : ℕ) (l : List ℕ) (at : ℕ) (f : Field) (e : EndSign) → (walk table false l at StartDle).stop ≡ ended f e
+    → Line table false f 0 (b ∷ l) (LeftOut ∷ (walk table false l at StartDle).marks)
+start_dle table b [] at f e h = absurd (no_end h)
+start_dle table b (c ∷ rest) at f e h = start_dle_step table b c rest at f e (sign_of table (character false c)) h
 
-start-step : (seven : Bool) (b : ℕ) (rest : List ℕ) (at : ℕ) (f : Field) (e : EndSign)
-    → ((walk seven rest (at + 1) Start).stop ≡ ended f e → Line seven f (start_of seven rest) rest (walk seven rest (at + 1) Start).marks)
-    → (s : Sign) → (onward (walk seven rest (at + 1)) Start at (in_start seven s)).stop ≡ ended f e
-    → Line seven f (cond (is_syn s) (start_of seven rest + 1) 0) (b ∷ rest) (onward (walk seven rest (at + 1)) Start at (in_start seven s)).marks
-start-step seven b rest at f e ih soh h = headed f b rest _ (header-walk seven rest (at + 1) f e h)
-start-step seven b rest at f e ih stx h =
-    let w : Closed false seven Text f rest (walk seven rest (at + 1) Text) = text-walk seven rest (at + 1) f e h in
+start-step : (table : CodeTable) (seven : Bool) (b : ℕ) (rest : List ℕ) (at : ℕ) (f : Field) (e : EndSign)
+    → ((walk table seven rest (at + 1) Start).stop ≡ ended f e → Line table seven f (start_of table seven rest) rest (walk table seven rest (at + 1) Start).marks)
+    → (s : Sign) → (onward (walk table seven rest (at + 1)) Start at (in_start seven s)).stop ≡ ended f e
+    → Line table seven f (cond (is_syn s) (start_of table seven rest + 1) 0) (b ∷ rest) (onward (walk table seven rest (at + 1)) Start at (in_start seven s)).marks
+start-step table seven b rest at f e ih soh h = headed f b rest _ (header-walk table seven rest (at + 1) f e h)
+start-step table seven b rest at f e ih stx h =
+    let w : Closed table false seven Text f rest (walk table seven rest (at + 1) Text) = text-walk table seven rest (at + 1) f e h in
     rw w.field (plain b rest _ w.part)
-start-step seven b rest at f e ih etx h = absurd (no_end h)
-start-step true b rest at f e ih dle h = absurd (no_end h)
-start-step false b rest at f e ih dle h = start_dle b rest (at + 1) f e h
-start-step seven b rest at f e ih syn h = filled f (start_of seven rest) b rest _ (ih h)
-start-step seven b rest at f e ih etb h = absurd (no_end h)
-start-step seven b rest at f e ih us h = absurd (no_end h)
-start-step seven b rest at f e ih other h = absurd (no_end h)
+start-step table seven b rest at f e ih etx h = absurd (no_end h)
+start-step table true b rest at f e ih dle h = absurd (no_end h)
+start-step table false b rest at f e ih dle h = start_dle table b rest (at + 1) f e h
+start-step table seven b rest at f e ih syn h = filled f (start_of table seven rest) b rest _ (ih h)
+start-step table seven b rest at f e ih etb h = absurd (no_end h)
+start-step table seven b rest at f e ih us h = absurd (no_end h)
+start-step table seven b rest at f e ih other h = absurd (no_end h)
 
-line_walk : (seven : Bool) (l : List ℕ) (at : ℕ) (f : Field) (e : EndSign) → (walk seven l at Start).stop ≡ ended f e
-    → Line seven f (start_of seven l) l (walk seven l at Start).marks
-line_walk seven [] at f e h = absurd (no_end h)
-line_walk seven (b ∷ rest) at f e h =
-    start-step seven b rest at f e (line_walk seven rest (at + 1) f e) (sign_of (character seven b)) h
+line_walk : (table : CodeTable) (seven : Bool) (l : List ℕ) (at : ℕ) (f : Field) (e : EndSign) → (walk table seven l at Start).stop ≡ ended f e
+    → Line table seven f (start_of table seven l) l (walk table seven l at Start).marks
+line_walk table seven [] at f e h = absurd (no_end h)
+line_walk table seven (b ∷ rest) at f e h =
+    start-step table seven b rest at f e (line_walk table seven rest (at + 1) f e) (sign_of table (character seven b)) h
 
-pub line_of_lem : (seven : Bool) (line : List ℕ) (ks : List Mark) (f : Field) (e : EndSign)
-    → walk seven line 0 Start ≡ record { marks = ks; stop = ended f e } → Line seven f (start_of seven line) line ks
-line_of_lem seven line ks f e h =
-    subst (λ k. Line seven f (start_of seven line) line k) (ap (λ w. w.marks) h) (line_walk seven line 0 f e (ap (λ w. w.stop) h))
+pub line_of_lem : (table : CodeTable) (seven : Bool) (line : List ℕ) (ks : List Mark) (f : Field) (e : EndSign)
+    → walk table seven line 0 Start ≡ record { marks = ks; stop = ended f e } → Line table seven f (start_of table seven line) line ks
+line_of_lem table seven line ks f e h =
+    subst (λ k. Line table seven f (start_of table seven line) line k) (ap (λ w. w.marks) h) (line_walk table seven line 0 f e (ap (λ w. w.stop) h))

@@ -16,6 +16,7 @@ use Rattle.block.specs.declared.Mark.{Mark}
 use Rattle.block.specs.declared.Mark.TheVariants.{LeftOut, HeaderByte, TextByte, InnerStart, End}
 use Rattle.block.specs.declared.Field.{Field}
 use Rattle.block.specs.declared.Field.TheVariants.{Start, StartDle, Header, HeaderDle, Text, Clear, ClearDle}
+use Rattle.block.specs.Signs.{CodeTable}
 use Rattle.block.specs.Walk.{ended, walk}
 use Rattle.block.specs.Marks.{is_header, sift}
 use Rattle.block.specs.Write.{is_clear}
@@ -53,12 +54,12 @@ same_inner [] t u at h p = p
 same_inner (k ∷ ks) t u at h p = same_inner ks (leave k at t) (add_mark k at u) (at + 1) (omega arith) (inner_step k t u at h p)
 
 -- the first byte of a line is never an inner start, so none stands at the place 0
-inner_placed : (seven : Bool) (f : Field) (n : ℕ) (line : List ℕ) (ks : List Mark) → Line seven f n line ks
+inner_placed : (table : CodeTable) (seven : Bool) (f : Field) (n : ℕ) (line : List ℕ) (ks : List Mark) → Line table seven f n line ks
     → StandsAt (leaves no_left_outs 0 ks).inner (tallied no_tally 0 ks).inner
-inner_placed seven f n line ks (plain b l ms p) = same_inner ms (leave LeftOut 0 no_left_outs) no_tally 1 (omega arith) refl
-inner_placed seven f n line ks (clear b c l ms p) = same_inner (LeftOut ∷ ms) (leave LeftOut 0 no_left_outs) no_tally 1 (omega arith) refl
-inner_placed seven f n line ks (headed g b l ms p) = same_inner ms (leave LeftOut 0 no_left_outs) no_tally 1 (omega arith) refl
-inner_placed seven f n line ks (filled g m b l ms p) = same_inner ms (leave LeftOut 0 no_left_outs) no_tally 1 (omega arith) refl
+inner_placed table seven f n line ks (plain b l ms p) = same_inner ms (leave LeftOut 0 no_left_outs) no_tally 1 (omega arith) refl
+inner_placed table seven f n line ks (clear b c l ms p) = same_inner (LeftOut ∷ ms) (leave LeftOut 0 no_left_outs) no_tally 1 (omega arith) refl
+inner_placed table seven f n line ks (headed g b l ms p) = same_inner ms (leave LeftOut 0 no_left_outs) no_tally 1 (omega arith) refl
+inner_placed table seven f n line ks (filled g m b l ms p) = same_inner ms (leave LeftOut 0 no_left_outs) no_tally 1 (omega arith) refl
 
 all-step : (k : Mark) (t : LeftOuts) (u : Tally) (at : ℕ) → (add_mark k at u).counted + (leave k at t).all ≡ u.counted + t.all + 1
 all-step LeftOut t u at = omega arith
@@ -80,17 +81,17 @@ by_kind f c wide m inner header_alone e h = absurd (omega (arith, e))
 by_kind f c wide m inner header_plain e h = (omega arith, e)
 by_kind f c wide m inner header_clear e h = (omega arith, e)
 
-before_inner : (seven : Bool) (f : Field) (n : ℕ) (line : List ℕ) (ks : List Mark) → Line seven f n line ks → (t : LeftOuts) (at : ℕ)
+before_inner : (table : CodeTable) (seven : Bool) (f : Field) (n : ℕ) (line : List ℕ) (ks : List Mark) → Line table seven f n line ks → (t : LeftOuts) (at : ℕ)
     → t.inner ≡ None → t.all ≡ at → 0 < (tallied no_tally at ks).inner
     → before_of (leaves t at ks).inner + length (sift is_header ks line) ≡ (tallied no_tally at ks).inner
-before_inner seven f n line ks (plain b l ms p) t at z a h = absurd (omega (arith, inner_kept no_tally (at + 1) ms p.inner))
-before_inner seven f n line ks (clear b c l ms p) t at z a h = absurd (omega (arith, inner_kept no_tally (at + 1 + 1) ms p.inner))
-before_inner seven f n line ks (headed g b l ms p) t at z a h =
+before_inner table seven f n line ks (plain b l ms p) t at z a h = absurd (omega (arith, inner_kept no_tally (at + 1) ms p.inner))
+before_inner table seven f n line ks (clear b c l ms p) t at z a h = absurd (omega (arith, inner_kept no_tally (at + 1 + 1) ms p.inner))
+before_inner table seven f n line ks (headed g b l ms p) t at z a h =
     let k = by_kind g p.clear p.wide (at + 1 + length p.head) (tallied no_tally (at + 1) ms).inner p.kind
     (p.place no_tally (at + 1) refl (omega arith)) h in
     omega (arith, p.lefts (leave LeftOut at t) (at + 1) z k.0, k.1)
-before_inner seven f n line ks (filled g m b l ms p) t at z a h =
-    before_inner seven g m l ms p (leave LeftOut at t) (at + 1) z (omega (arith, a)) h
+before_inner table seven f n line ks (filled g m b l ms p) t at z a h =
+    before_inner table seven g m l ms p (leave LeftOut at t) (at + 1) z (omega (arith, a)) h
 
 -- ---- the whole line
 
@@ -105,7 +106,7 @@ with_text_at : (start signs : ℕ) (e : EndSign) (t : LeftOuts) (after : ℕ) �
 unfolding segments_at
 with_text_at start signs e t after p = rw p
 
-module _ (seven : Bool) (line : List ℕ) (ks : List Mark) (f : Field) (e : EndSign) (w : walk seven line 0 Start ≡ record { marks = ks; stop = ended f e }) where
+module _ (table : CodeTable) (seven : Bool) (line : List ℕ) (ks : List Mark) (f : Field) (e : EndSign) (w : walk table seven line 0 Start ≡ record { marks = ks; stop = ended f e }) where
   abbrev T : Tally
   T = tallied no_tally 0 ks
 
@@ -113,16 +114,16 @@ module _ (seven : Bool) (line : List ℕ) (ks : List Mark) (f : Field) (e : EndS
   L = leaves no_left_outs 0 ks
 
   abbrev F : Segments
-  F = framing_at (start_of seven line) f e T (length ks)
+  F = framing_at (start_of table seven line) f e T (length ks)
 
-  s : Segmented seven line ks F
-  s = segmented seven line ks f e w
+  s : Segmented table seven line ks F
+  s = segmented table seven line ks f e w
 
-  line_of : Line seven f (start_of seven line) line ks
-  line_of = line_of_lem seven line ks f e w
+  line_of : Line table seven f (start_of table seven line) line ks
+  line_of = line_of_lem table seven line ks f e w
 
   marks : length ks ≤ length line
-  marks = subst (λ v. length v.marks ≤ length line) w (marks-within seven line 0 Start)
+  marks = subst (λ v. length v.marks ≤ length line) w (marks-within table seven line 0 Start)
 
   t : Tallied ks line
   t = tally_counts ks line marks
@@ -142,33 +143,33 @@ module _ (seven : Bool) (line : List ℕ) (ks : List Mark) (f : Field) (e : EndS
   unfolding header_in kept_bytes
   no_header q =
       t.headers ∙ ap length s.headers
-      ∙ ap (λ n. length (kept_bytes false seven false (slice n F.inner line))) q
-      ∙ ap (λ l. length (kept_bytes false seven false l)) (slice_empty F.inner line)
+      ∙ ap (λ n. length (kept_bytes table false seven false (slice n F.inner line))) q
+      ∙ ap (λ l. length (kept_bytes table false seven false l)) (slice_empty F.inner line)
 
   no_text : F.body ≡ F.tail → T.text ≡ 0
   unfolding text_in kept_bytes
   no_text q =
       t.texts ∙ ap length s.texts
-      ∙ ap (λ n. length (kept_bytes (is_clear F.shape) seven false (slice n F.tail line))) q
-      ∙ ap (λ l. length (kept_bytes (is_clear F.shape) seven false l)) (slice_empty F.tail line)
+      ∙ ap (λ n. length (kept_bytes table (is_clear F.shape) seven false (slice n F.tail line))) q
+      ∙ ap (λ l. length (kept_bytes table (is_clear F.shape) seven false l)) (slice_empty F.tail line)
 
   header_is : 0 < T.inner → T.inner - before_of L.inner ≡ T.header
   header_is h =
-      omega (arith, before_inner seven f (start_of seven line) line ks line_of no_left_outs 0 refl refl h, t.headers)
+      omega (arith, before_inner table seven f (start_of table seven line) line ks line_of no_left_outs 0 refl refl h, t.headers)
 
   module _ (alone behind : Shape) where
     abbrev Alone : Segments
-    Alone = segments alone e T (length ks) (start_of seven line + text_signs f) (start_of seven line + text_signs f) (start_of seven line + text_signs f) (length ks - text_signs f)
+    Alone = segments alone e T (length ks) (start_of table seven line + text_signs f) (start_of table seven line + text_signs f) (start_of table seven line + text_signs f) (length ks - text_signs f)
 
     abbrev Behind : Segments
-    Behind = segments behind e T (length ks) (start_of seven line + 1) T.inner (T.inner + text_signs f) (length ks - text_signs f)
+    Behind = segments behind e T (length ks) (start_of table seven line + 1) T.inner (T.inner + text_signs f) (length ks - text_signs f)
 
     with_text : eqb (text_signs f) 0 ≡ false → F ≡ cond (eqb T.inner 0) Alone Behind
         → shape_at (text_signs f) false ≡ alone → shape_at (text_signs f) true ≡ behind
-        → segments_at (start_of seven line) (text_signs f) e L (length ks) ≡ F
-    with_text p q r v = with_text_at (start_of seven line) (text_signs f) e L (length ks) p ∙ go L.inner refl (inner_placed seven f (start_of seven line) line ks line_of)
+        → segments_at (start_of table seven line) (text_signs f) e L (length ks) ≡ F
+    with_text p q r v = with_text_at (start_of table seven line) (text_signs f) e L (length ks) p ∙ go L.inner refl (inner_placed table seven f (start_of table seven line) line ks line_of)
       where
-        go : (o : Option FirstInnerStart) → L.inner ≡ o → StandsAt o T.inner → text_at (start_of seven line) (text_signs f) e o L.all (length ks) ≡ F
+        go : (o : Option FirstInnerStart) → L.inner ≡ o → StandsAt o T.inner → text_at (start_of table seven line) (text_signs f) e o L.all (length ks) ≡ F
         go None g i =
             let z : F ≡ Alone = q ∙ ap (λ n. cond (eqb n 0) Alone Behind) i in
             let h : T.header ≡ 0 = no_header (ap (λ g. g.head) z ∙ sym (ap (λ g. g.inner) z)) in
@@ -180,27 +181,27 @@ module _ (seven : Bool) (line : List ℕ) (ks : List Mark) (f : Field) (e : EndS
             let x : length ks - L.all - (inner.at - inner.before + text_signs f + 1) ≡ T.text =
             omega (arith, parts, h, counted_is, ap (λ g. g.body) z, ap (λ g. g.inner) z) in
             same_numbers e T (length ks) _ _ _ _ v h x counted_is
-            ∙ ap (λ n. segments behind e T (length ks) (start_of seven line + 1) n (n + text_signs f) (length ks - text_signs f)) (sym i.0) ∙ sym z
+            ∙ ap (λ n. segments behind e T (length ks) (start_of table seven line + 1) n (n + text_signs f) (length ks - text_signs f)) (sym i.0) ∙ sym z
 
-  without_text : text_signs f ≡ 0 → F ≡ segments shape.Header e T (length ks) (start_of seven line + 1) (length ks - 1) (length ks - 1) (length ks - 1)
-      → segments_at (start_of seven line) (text_signs f) e L (length ks) ≡ F
+  without_text : text_signs f ≡ 0 → F ≡ segments shape.Header e T (length ks) (start_of table seven line + 1) (length ks - 1) (length ks - 1) (length ks - 1)
+      → segments_at (start_of table seven line) (text_signs f) e L (length ks) ≡ F
   unfolding segments_at shape_at
   without_text p z =
       let x : T.text ≡ 0 = no_text (ap (λ g. g.body) z ∙ sym (ap (λ g. g.tail) z)) in
       let h : length ks - L.all - 1 ≡ T.header = omega (arith, parts, x, counted_is, ap (λ g. g.body) z, ap (λ g. g.inner) z) in
-      ap (λ n. segments_at (start_of seven line) n e L (length ks)) p
+      ap (λ n. segments_at (start_of table seven line) n e L (length ks)) p
       ∙ same_numbers e T (length ks) _ _ _ _ refl h (sym x) counted_is ∙ sym z
 
 -- the segments that the walk hands on are those of the framing
-pub segments_framing : (seven : Bool) (line : List ℕ) (ks : List Mark) (f : Field) (e : EndSign)
-    → walk seven line 0 Start ≡ record { marks = ks; stop = ended f e }
-    → segments_at (start_of seven line) (text_signs f) e (leaves no_left_outs 0 ks) (length ks)
-    ≡ framing_at (start_of seven line) f e (tallied no_tally 0 ks) (length ks)
+pub segments_framing : (table : CodeTable) (seven : Bool) (line : List ℕ) (ks : List Mark) (f : Field) (e : EndSign)
+    → walk table seven line 0 Start ≡ record { marks = ks; stop = ended f e }
+    → segments_at (start_of table seven line) (text_signs f) e (leaves no_left_outs 0 ks) (length ks)
+    ≡ framing_at (start_of table seven line) f e (tallied no_tally 0 ks) (length ks)
 unfolding framing_at shape_at
-segments_framing seven line ks Start e w = without_text seven line ks Start e w refl refl
-segments_framing seven line ks StartDle e w = without_text seven line ks StartDle e w refl refl
-segments_framing seven line ks Header e w = without_text seven line ks Header e w refl refl
-segments_framing seven line ks HeaderDle e w = without_text seven line ks HeaderDle e w refl refl
-segments_framing seven line ks Text e w = with_text seven line ks Text e w shape.Text shape.HeaderText refl refl refl refl
-segments_framing seven line ks Clear e w = without_text seven line ks Clear e w refl refl
-segments_framing seven line ks ClearDle e w = with_text seven line ks ClearDle e w shape.ClearText shape.HeaderClearText refl refl refl refl
+segments_framing table seven line ks Start e w = without_text table seven line ks Start e w refl refl
+segments_framing table seven line ks StartDle e w = without_text table seven line ks StartDle e w refl refl
+segments_framing table seven line ks Header e w = without_text table seven line ks Header e w refl refl
+segments_framing table seven line ks HeaderDle e w = without_text table seven line ks HeaderDle e w refl refl
+segments_framing table seven line ks Text e w = with_text table seven line ks Text e w shape.Text shape.HeaderText refl refl refl refl
+segments_framing table seven line ks Clear e w = without_text table seven line ks Clear e w refl refl
+segments_framing table seven line ks ClearDle e w = with_text table seven line ks ClearDle e w shape.ClearText shape.HeaderClearText refl refl refl refl

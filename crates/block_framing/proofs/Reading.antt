@@ -20,7 +20,8 @@ use Rattle.block.specs.declared.EndSign.{EndSign}
 use Rattle.block.specs.declared.Mark.{Mark}
 use Rattle.block.specs.declared.Field.{Field}
 use Rattle.block.specs.declared.Field.TheVariants.{Start, StartDle, Header, HeaderDle, Text, Clear, ClearDle}
-use Rattle.block.specs.Characters.{is_seven, parity_right}
+use Rattle.block.specs.Signs.{CodeTable}
+use Rattle.block.specs.Characters.{is_seven, carries, parity_right}
 use Rattle.block.specs.Walk.{Stop, ended, refused, Walked, walk}
 use Rattle.block.specs.Marks.{counted}
 use Rattle.block.specs.Check.{check_length}
@@ -93,16 +94,16 @@ module _ (start : ℕ) where
       ∙ ap (stopped start (leaves no_left_outs 0 w.marks) (length w.marks)) q
 
   -- a walk that hands on a refusal
-  pub refused_by : (m : Method) (line : List ℕ) (w : Walked) (n v : ℕ) → walk_answer start no_left_outs 0 w ≡ refusal n v
-      → framed_answer (is_seven m) line (ask_walk m line w) ≡ refusal n v
-  refused_by m line w n v e = go w.stop refl
+  pub refused_by : (table : CodeTable) (m : Method) (line : List ℕ) (w : Walked) (n v : ℕ) → walk_answer start no_left_outs 0 w ≡ refusal n v
+      → framed_answer table (is_seven m) line (ask_walk m line w) ≡ refusal n v
+  refused_by table m line w n v e = go w.stop refl
     where
-      go : (s : Stop) → w.stop ≡ s → framed_answer (is_seven m) line (ask_end m line w.marks w.stop) ≡ refusal n v
+      go : (s : Stop) → w.stop ≡ s → framed_answer table (is_seven m) line (ask_end m line w.marks w.stop) ≡ refusal n v
       go (ended f d) q =
           let c : refusal n v ≡ framed (segments_at start (text_signs f) d (leaves no_left_outs 0 w.marks) (length w.marks)) = sym e ∙ answer-walk w q in
           let z : ◌≡◌ {A = ℕ} 0 1 = cc in
           absurd (omega arith)
-      go (refused k u) q = ap (λ s. framed_answer (is_seven m) line (ask_end m line w.marks s)) q ∙ sym (answer-walk w q) ∙ e
+      go (refused k u) q = ap (λ s. framed_answer table (is_seven m) line (ask_end m line w.marks s)) q ∙ sym (answer-walk w q) ∙ e
 
 -- a walk that hands on a framing stopped at an end sign
 pub record FoundBy (start : ℕ) (w : Walked) (r : Segments) : Type 0 where
@@ -111,23 +112,23 @@ pub record FoundBy (start : ℕ) (w : Walked) (r : Segments) : Type 0 where
   pub stop : w.stop ≡ ended field end
   pub framing : r ≡ framing_at start field end (tallied no_tally 0 w.marks) (length w.marks)
 
-found_by : (seven : Bool) (line : List ℕ) (r : Segments) → walk_answer (start_of seven line) no_left_outs 0 (walk seven line 0 Start) ≡ framed r
-    → FoundBy (start_of seven line) (walk seven line 0 Start) r
-found_by seven line r e = go (walk seven line 0 Start).stop refl
+found_by : (table : CodeTable) (seven : Bool) (line : List ℕ) (r : Segments) → walk_answer (start_of table seven line) no_left_outs 0 (walk table seven line 0 Start) ≡ framed r
+    → FoundBy (start_of table seven line) (walk table seven line 0 Start) r
+found_by table seven line r e = go (walk table seven line 0 Start).stop refl
   where
-    go : (s : Stop) → (walk seven line 0 Start).stop ≡ s → FoundBy (start_of seven line) (walk seven line 0 Start) r
+    go : (s : Stop) → (walk table seven line 0 Start).stop ≡ s → FoundBy (start_of table seven line) (walk table seven line 0 Start) r
     go (ended f d) q =
-        let ks : List Mark = (walk seven line 0 Start).marks in
-        let c : framed r ≡ framed (segments_at (start_of seven line) (text_signs f) d (leaves no_left_outs 0 ks) (length ks)) = sym e ∙ answer-walk (start_of seven line) (walk seven line 0 Start) q in
-        let p : r ≡ segments_at (start_of seven line) (text_signs f) d (leaves no_left_outs 0 ks) (length ks) = cc in
+        let ks : List Mark = (walk table seven line 0 Start).marks in
+        let c : framed r ≡ framed (segments_at (start_of table seven line) (text_signs f) d (leaves no_left_outs 0 ks) (length ks)) = sym e ∙ answer-walk (start_of table seven line) (walk table seven line 0 Start) q in
+        let p : r ≡ segments_at (start_of table seven line) (text_signs f) d (leaves no_left_outs 0 ks) (length ks) = cc in
         record {
           field = f;
           end = d;
           stop = q;
-          framing = p ∙ segments_framing seven line ks f d (ap (λ (s : Stop). record { marks = ks; stop = s }) q);
+          framing = p ∙ segments_framing table seven line ks f d (ap (λ (s : Stop). record { marks = ks; stop = s }) q);
         }
     go (refused n v) q =
-        let c : framed r ≡ refusal n v = sym e ∙ answer-walk (start_of seven line) (walk seven line 0 Start) q in
+        let c : framed r ≡ refusal n v = sym e ∙ answer-walk (start_of table seven line) (walk table seven line 0 Start) q in
         let z : ◌≡◌ {A = ℕ} 0 1 = cc in
         absurd (omega arith)
 
@@ -159,15 +160,15 @@ framing_carries start ClearDle e t after = carries_either (eqb t.inner 0) (carri
 
 -- ---- 52, 53 and 17
 
-module _ (m : Method) (line : List ℕ) (r : Segments) (e : walk_answer (start_of (is_seven m) line) no_left_outs 0 (walk (is_seven m) line 0 Start) ≡ framed r) where
+module _ (table : CodeTable) (m : Method) (line : List ℕ) (r : Segments) (e : walk_answer (start_of table (is_seven m) line) no_left_outs 0 (walk table (is_seven m) line 0 Start) ≡ framed r) where
   abbrev w : Walked
-  w = walk (is_seven m) line 0 Start
+  w = walk table (is_seven m) line 0 Start
 
   abbrev start : ℕ
-  start = start_of (is_seven m) line
+  start = start_of table (is_seven m) line
 
   by : FoundBy start w r
-  by = found_by (is_seven m) line r e
+  by = found_by table (is_seven m) line r e
 
   carried : Carries by.end (tallied no_tally 0 w.marks) (length w.marks) r
   carried =
@@ -175,10 +176,10 @@ module _ (m : Method) (line : List ℕ) (r : Segments) (e : walk_answer (start_o
       (framing_carries start by.field by.end (tallied no_tally 0 w.marks) (length w.marks))
 
   count : r.counted ≡ length (counted w.marks line)
-  count = carried.counts ∙ (tally_counts w.marks line (marks-within (is_seven m) line 0 Start)).counts
+  count = carried.counts ∙ (tally_counts w.marks line (marks-within table (is_seven m) line 0 Start)).counts
 
   pub after_small : length line ≤ line_limit → r.after ≤ line_limit
-  after_small h = omega (arith, carried.behind, marks-within (is_seven m) line 0 Start)
+  after_small h = omega (arith, carried.behind, marks-within table (is_seven m) line 0 Start)
 
   -- the answers to 52, 53 and 17
   by_count : Bool → Framed
@@ -200,16 +201,16 @@ module _ (m : Method) (line : List ℕ) (r : Segments) (e : walk_answer (start_o
   closes : r.after + check_length m ≡ closed
   closes = ap (λ n. n + check_length m) carried.behind
 
-  pub check_short_of : length line < r.after + check_length m → framed_answer (is_seven m) line (ask_walk m line w) ≡ refusal 52 r.after
+  pub check_short_of : length line < r.after + check_length m → framed_answer table (is_seven m) line (ask_walk m line w) ≡ refusal 52 r.after
   unfolding by_length
   check_short_of h =
-      ap (framed_answer (is_seven m) line) (asked ∙ ap (λ t. by_length t (leb (length line) closed)) (lt-leb closed (length line) (omega (arith, closes))))
+      ap (framed_answer table (is_seven m) line) (asked ∙ ap (λ t. by_length t (leb (length line) closed)) (lt-leb closed (length line) (omega (arith, closes))))
       ∙ ap (refusal 52) (sym carried.behind)
 
-  pub check_long_of : r.after + check_length m < length line → framed_answer (is_seven m) line (ask_walk m line w) ≡ refusal 53 r.after
+  pub check_long_of : r.after + check_length m < length line → framed_answer table (is_seven m) line (ask_walk m line w) ≡ refusal 53 r.after
   unfolding by_length
   check_long_of h =
-      ap (framed_answer (is_seven m) line)
+      ap (framed_answer table (is_seven m) line)
       (asked ∙ ap₂ by_length (le-leb closed (length line) (omega (arith, closes))) (lt-leb (length line) closed (omega (arith, closes))))
       ∙ ap (refusal 53) (sym carried.behind)
 
@@ -219,50 +220,59 @@ module _ (m : Method) (line : List ℕ) (r : Segments) (e : walk_answer (start_o
     right-length =
         asked ∙ ap₂ by_length (le-leb closed (length line) (omega (arith, closes))) (le-leb (length line) closed (omega (arith, closes)))
 
-    pub too_many : counted_limit < r.counted → framed_answer (is_seven m) line (ask_walk m line w) ≡ refusal 17 0
+    pub too_many : counted_limit < r.counted → framed_answer table (is_seven m) line (ask_walk m line w) ≡ refusal 17 0
     unfolding by_count
-    too_many k = ap (framed_answer (is_seven m) line) (right-length ∙ ap by_count (lt-leb (length (counted w.marks line)) counted_limit (omega (arith, count))))
+    too_many k = ap (framed_answer table (is_seven m) line) (right-length ∙ ap by_count (lt-leb (length (counted w.marks line)) counted_limit (omega (arith, count))))
 
-    pub all-passed : r.counted ≤ counted_limit → framed_answer (is_seven m) line (ask_walk m line w) ≡ framed r
+    pub all-passed : r.counted ≤ counted_limit → framed_answer table (is_seven m) line (ask_walk m line w) ≡ framed r
     unfolding by_count
     all-passed k =
-        ap (framed_answer (is_seven m) line) (right-length ∙ ap by_count (le-leb (length (counted w.marks line)) counted_limit (omega (arith, count)))) ∙ ap framed (sym by.framing)
+        ap (framed_answer table (is_seven m) line) (right-length ∙ ap by_count (le-leb (length (counted w.marks line)) counted_limit (omega (arith, count)))) ∙ ap framed (sym by.framing)
 
 -- ---- the same of the code's walk
 
-module _ (m : Method) (line : List ℕ) {seven : Bool} {result : Result Segments ReadRefusal} (s : seven ≡ is_seven m)
-    (e : of_walk result ≡ walk_answer (start_of seven line) no_left_outs 0 (walk seven line 0 Start)) where
-  pub answer_as : {r : Segments} → result ≡ Ok r → walk_answer (start_of (is_seven m) line) no_left_outs 0 (walk (is_seven m) line 0 Start) ≡ framed r
-  answer_as q = sym (e ∙ ap (λ t. walk_answer (start_of t line) no_left_outs 0 (walk t line 0 Start)) s) ∙ ap of_walk q
+module _ (table : CodeTable) (m : Method) (line : List ℕ) {seven : Bool} {result : Result Segments ReadRefusal} (s : seven ≡ is_seven m)
+    (e : of_walk result ≡ walk_answer (start_of table seven line) no_left_outs 0 (walk table seven line 0 Start)) where
+  pub answer_as : {r : Segments} → result ≡ Ok r → walk_answer (start_of table (is_seven m) line) no_left_outs 0 (walk table (is_seven m) line 0 Start) ≡ framed r
+  answer_as q = sym (e ∙ ap (λ t. walk_answer (start_of table t line) no_left_outs 0 (walk table t line 0 Start)) s) ∙ ap of_walk q
 
-  pub refused_as : {r : ReadRefusal} → result ≡ Err r → of_walk result ≡ framed_answer (is_seven m) line (ask_walk m line (walk (is_seven m) line 0 Start))
+  pub refused_as : {r : ReadRefusal} → result ≡ Err r → of_walk result ≡ framed_answer table (is_seven m) line (ask_walk m line (walk table (is_seven m) line 0 Start))
   refused_as {r} q =
-      ap of_walk q ∙ sym (refused_by (start_of (is_seven m) line) m line (walk (is_seven m) line 0 Start) (read_number r) (read_value r)
-      (sym (e ∙ ap (λ t. walk_answer (start_of t line) no_left_outs 0 (walk t line 0 Start)) s) ∙ ap of_walk q))
+      ap of_walk q ∙ sym (refused_by (start_of table (is_seven m) line) table m line (walk table (is_seven m) line 0 Start) (read_number r) (read_value r)
+      (sym (e ∙ ap (λ t. walk_answer (start_of table t line) no_left_outs 0 (walk table t line 0 Start)) s) ∙ ap of_walk q))
 
--- ---- 11 and 12
+-- ---- 58, 11 and 12
 
-module _ (m : Method) (p : Parity) (line : List ℕ) where
-  pub too_long : line_limit < length line → refusal 11 0 ≡ framed_answer (is_seven m) line (rule.framed m p line)
+module _ (table : CodeTable) (m : Method) (p : Parity) (line : List ℕ) where
+  pub not_carried : {yes : Bool} → yes ≡ carries table m → yes ≡ false → refusal 58 0 ≡ framed_answer table (is_seven m) line (rule.framed table m p line)
   unfolding rule.framed
-  too_long h = rw (lt-leb (length line) line_limit h)
+  not_carried a n = rw (sym a ∙ n)
 
-  module _ (h : length line ≤ line_limit) where
-    pub eight_bit : {seven : Bool} → seven ≡ is_seven m → seven ≡ false → framed_answer (is_seven m) line (ask_walk m line (walk (is_seven m) line 0 Start)) ≡ framed_answer (is_seven m) line (rule.framed m p line)
+  module _ {yes : Bool} (a : yes ≡ carries table m) (y : yes ≡ true) where
+    carried_is : carries table m ≡ true
+    carried_is = sym a ∙ y
+
+    pub too_long : line_limit < length line → refusal 11 0 ≡ framed_answer table (is_seven m) line (rule.framed table m p line)
     unfolding rule.framed
-    eight_bit s e = rw (le-leb (length line) line_limit h, sym s ∙ e)
+    too_long h = rw (carried_is, lt-leb (length line) line_limit h)
 
-    module _ {seven : Bool} (s : seven ≡ is_seven m) (e : seven ≡ true) where
-      seven_bit : rule.framed m p line ≡ ask_parities p line 0 (ask_walk m line (walk (is_seven m) line 0 Start))
+    module _ (h : length line ≤ line_limit) where
+      pub eight_bit : {seven : Bool} → seven ≡ is_seven m → seven ≡ false → framed_answer table (is_seven m) line (ask_walk m line (walk table (is_seven m) line 0 Start)) ≡ framed_answer table (is_seven m) line (rule.framed table m p line)
       unfolding rule.framed
-      seven_bit =
-          ap (λ t. rule.ask t 11 0 (cond (is_seven m) (ask_parities p line 0 (ask_walk m line (walk (is_seven m) line 0 Start))) (ask_walk m line (walk (is_seven m) line 0 Start)))) (le-leb (length line) line_limit h)
-          ∙ ap (λ t. cond t (ask_parities p line 0 (ask_walk m line (walk (is_seven m) line 0 Start))) (ask_walk m line (walk (is_seven m) line 0 Start))) (sym s ∙ e)
+      eight_bit s e = rw (carried_is, le-leb (length line) line_limit h, sym s ∙ e)
 
-      pub wrong_parity : {at : ℕ} → at ≡ first_failing (parity_right p) 0 line → at < length line → refusal 12 at ≡ framed_answer (is_seven m) line (rule.framed m p line)
-      wrong_parity q k =
-          ap (refusal 12) q ∙ sym (ap (framed_answer (is_seven m) line) (seven_bit ∙ parities_wrong p line 0 _ (omega arith)))
+      module _ {seven : Bool} (s : seven ≡ is_seven m) (e : seven ≡ true) where
+        seven_bit : rule.framed table m p line ≡ ask_parities p line 0 (ask_walk m line (walk table (is_seven m) line 0 Start))
+        unfolding rule.framed
+        seven_bit =
+            ap (λ t. rule.ask t 58 0 (rule.ask (leb (length line) line_limit) 11 0 (cond (is_seven m) (ask_parities p line 0 (ask_walk m line (walk table (is_seven m) line 0 Start))) (ask_walk m line (walk table (is_seven m) line 0 Start))))) carried_is
+            ∙ ap (λ t. rule.ask t 11 0 (cond (is_seven m) (ask_parities p line 0 (ask_walk m line (walk table (is_seven m) line 0 Start))) (ask_walk m line (walk table (is_seven m) line 0 Start)))) (le-leb (length line) line_limit h)
+            ∙ ap (λ t. cond t (ask_parities p line 0 (ask_walk m line (walk table (is_seven m) line 0 Start))) (ask_walk m line (walk table (is_seven m) line 0 Start))) (sym s ∙ e)
 
-      pub right-parity : {at : ℕ} → at ≡ first_failing (parity_right p) 0 line → length line ≤ at
-          → framed_answer (is_seven m) line (ask_walk m line (walk (is_seven m) line 0 Start)) ≡ framed_answer (is_seven m) line (rule.framed m p line)
-      right-parity q k = sym (ap (framed_answer (is_seven m) line) (seven_bit ∙ parities_right p line 0 _ (omega arith)))
+        pub wrong_parity : {at : ℕ} → at ≡ first_failing (parity_right p) 0 line → at < length line → refusal 12 at ≡ framed_answer table (is_seven m) line (rule.framed table m p line)
+        wrong_parity q k =
+            ap (refusal 12) q ∙ sym (ap (framed_answer table (is_seven m) line) (seven_bit ∙ parities_wrong p line 0 _ (omega arith)))
+
+        pub right-parity : {at : ℕ} → at ≡ first_failing (parity_right p) 0 line → length line ≤ at
+            → framed_answer table (is_seven m) line (ask_walk m line (walk table (is_seven m) line 0 Start)) ≡ framed_answer table (is_seven m) line (rule.framed table m p line)
+        right-parity q k = sym (ap (framed_answer table (is_seven m) line) (seven_bit ∙ parities_right p line 0 _ (omega arith)))

@@ -11,7 +11,7 @@ use Rattle.block.specs.declared.Mark.{Mark}
 use Rattle.block.specs.declared.Mark.TheVariants.{LeftOut, TextByte, End}
 use Rattle.block.specs.declared.Field.{Field}
 use Rattle.block.specs.declared.Field.TheVariants.{Text, Clear, ClearDle}
-use Rattle.block.specs.Signs.{Sign, soh, stx, etx, dle, syn, etb, us, other, sign_of, is_dle}
+use Rattle.block.specs.Signs.{CodeTable, Sign, soh, stx, etx, dle, syn, etb, us, other, sign_of, is_dle}
 use Rattle.block.specs.Characters.{character}
 use Rattle.block.specs.Walk.{in_text, in_clear, in_clear_dle}
 use Rattle.block.specs.Walk.{ended, refused, Walked, ahead, onward, walk}
@@ -23,7 +23,7 @@ use Rattle.block_framing.proofs.KeptBySign.{kept_plain, kept_clear, kept-behind}
 
 -- `body` of the text, in clear text its last DLE as `lead`, the end sign and what stands after it; `behind`: a DLE stands before.
 -- A line that is a header alone has no text: there the body is empty
-pub record Part (clear seven behind : Bool) (l : List ℕ) (ks : List Mark) : Type 0 where
+pub record Part (table : CodeTable) (clear seven behind : Bool) (l : List ℕ) (ks : List Mark) : Type 0 where
   pub body : List ℕ
   pub lead : List ℕ
   pub stop : ℕ
@@ -32,13 +32,13 @@ pub record Part (clear seven behind : Bool) (l : List ℕ) (ks : List Mark) : Ty
   pub leads : length lead ≡ cond clear 1 0
   pub size : length ks ≡ length body + (length lead + 1)
   pub headers : sift is_header ks l ≡ []
-  pub texts : sift is_text ks l ≡ kept_bytes clear seven behind body
-  pub counts : counted ks l ≡ kept_bytes clear seven behind body ++ stop ∷ []
+  pub texts : sift is_text ks l ≡ kept_bytes table clear seven behind body
+  pub counts : counted ks l ≡ kept_bytes table clear seven behind body ++ stop ∷ []
   pub inner : has_inner ks ≡ false
 
-pub part_end : (seven : Bool) (b : ℕ) (rest : List ℕ) → Part false seven false (b ∷ rest) (End ∷ [])
+pub part_end : (table : CodeTable) (seven : Bool) (b : ℕ) (rest : List ℕ) → Part table false seven false (b ∷ rest) (End ∷ [])
 unfolding kept_bytes
-part_end seven b rest =
+part_end table seven b rest =
     record {
       body = [];
       lead = [];
@@ -53,9 +53,9 @@ part_end seven b rest =
       inner = refl;
     }
 
-part_clear_end : (b c : ℕ) (rest : List ℕ) → Part true false false (b ∷ c ∷ rest) (LeftOut ∷ End ∷ [])
+part_clear_end : (table : CodeTable) (b c : ℕ) (rest : List ℕ) → Part table true false false (b ∷ c ∷ rest) (LeftOut ∷ End ∷ [])
 unfolding kept_bytes
-part_clear_end b c rest =
+part_clear_end table b c rest =
     record {
       body = [];
       lead = b ∷ [];
@@ -71,9 +71,9 @@ part_clear_end b c rest =
     }
 
 -- one byte more in front
-module _ (clear seven behind next : Bool) (b : ℕ) (l : List ℕ) (ks : List Mark) (p : Part clear seven next l ks) where
-  part_text : ((bs : List ℕ) → kept_bytes clear seven behind (b ∷ bs) ≡ b ∷ kept_bytes clear seven next bs)
-      → Part clear seven behind (b ∷ l) (TextByte ∷ ks)
+module _ (table : CodeTable) (clear seven behind next : Bool) (b : ℕ) (l : List ℕ) (ks : List Mark) (p : Part table clear seven next l ks) where
+  part_text : ((bs : List ℕ) → kept_bytes table clear seven behind (b ∷ bs) ≡ b ∷ kept_bytes table clear seven next bs)
+      → Part table clear seven behind (b ∷ l) (TextByte ∷ ks)
   part_text k =
       record {
         body = b ∷ p.body;
@@ -89,8 +89,8 @@ module _ (clear seven behind next : Bool) (b : ℕ) (l : List ℕ) (ks : List Ma
         inner = p.inner;
       }
 
-  part_left_out : ((bs : List ℕ) → kept_bytes clear seven behind (b ∷ bs) ≡ kept_bytes clear seven next bs)
-      → Part clear seven behind (b ∷ l) (LeftOut ∷ ks)
+  part_left_out : ((bs : List ℕ) → kept_bytes table clear seven behind (b ∷ bs) ≡ kept_bytes table clear seven next bs)
+      → Part table clear seven behind (b ∷ l) (LeftOut ∷ ks)
   part_left_out k =
       record {
         body = b ∷ p.body;
@@ -113,81 +113,81 @@ pub no_end : {n v : ℕ} {f : Field} {e : EndSign} → refused n v ≡ ended f e
 no_end h = let z : ◌≡◌ {A = ℕ} 0 1 = cc in omega arith
 
 -- a walk that stopped in field f over a part whose end sign stands in field g
-pub record Closed (clear seven : Bool) (g f : Field) (l : List ℕ) (w : Walked) : Type 0 where
+pub record Closed (table : CodeTable) (clear seven : Bool) (g f : Field) (l : List ℕ) (w : Walked) : Type 0 where
   pub field : f ≡ g
-  pub part : Part clear seven false l w.marks
+  pub part : Part table clear seven false l w.marks
 
-module _ (seven : Bool) (b : ℕ) (rest : List ℕ) (go : Field → Walked) (at : ℕ) (f : Field) (e : EndSign)
-    (ih : (go Text).stop ≡ ended f e → Closed false seven Text f rest (go Text)) where
-  text-step : (s : Sign) → sign_of (character seven b) ≡ s → (onward go Text at (in_text s)).stop ≡ ended f e
-      → Closed false seven Text f (b ∷ rest) (onward go Text at (in_text s))
+module _ (table : CodeTable) (seven : Bool) (b : ℕ) (rest : List ℕ) (go : Field → Walked) (at : ℕ) (f : Field) (e : EndSign)
+    (ih : (go Text).stop ≡ ended f e → Closed table false seven Text f rest (go Text)) where
+  text-step : (s : Sign) → sign_of table (character seven b) ≡ s → (onward go Text at (in_text s)).stop ≡ ended f e
+      → Closed table false seven Text f (b ∷ rest) (onward go Text at (in_text s))
   text-step soh q h = absurd (no_end h)
   text-step stx q h = absurd (no_end h)
-  text-step etx q h = record { field = cc; part = part_end seven b rest }
+  text-step etx q h = record { field = cc; part = part_end table seven b rest }
   text-step dle q h = absurd (no_end h)
   text-step syn q h =
       record {
         field = (ih h).field;
-        part = part_left_out false seven false false b rest _ (ih h).part (λ bs. kept_plain seven b bs syn q);
+        part = part_left_out table false seven false false b rest _ (ih h).part (λ bs. kept_plain table seven b bs syn q);
       }
-  text-step etb q h = record { field = cc; part = part_end seven b rest }
-  text-step us q h = record { field = cc; part = part_end seven b rest }
+  text-step etb q h = record { field = cc; part = part_end table seven b rest }
+  text-step us q h = record { field = cc; part = part_end table seven b rest }
   text-step other q h =
       record {
         field = (ih h).field;
-        part = part_text false seven false false b rest _ (ih h).part (λ bs. kept_plain seven b bs other q);
+        part = part_text table false seven false false b rest _ (ih h).part (λ bs. kept_plain table seven b bs other q);
       }
 
-pub text-walk : (seven : Bool) (l : List ℕ) (at : ℕ) (f : Field) (e : EndSign) → (walk seven l at Text).stop ≡ ended f e
-    → Closed false seven Text f l (walk seven l at Text)
-text-walk seven [] at f e h = absurd (no_end h)
-text-walk seven (b ∷ rest) at f e h =
-    text-step seven b rest (walk seven rest (at + 1)) at f e (text-walk seven rest (at + 1) f e) (sign_of (character seven b)) refl h
+pub text-walk : (table : CodeTable) (seven : Bool) (l : List ℕ) (at : ℕ) (f : Field) (e : EndSign) → (walk table seven l at Text).stop ≡ ended f e
+    → Closed table false seven Text f l (walk table seven l at Text)
+text-walk table seven [] at f e h = absurd (no_end h)
+text-walk table seven (b ∷ rest) at f e h =
+    text-step table seven b rest (walk table seven rest (at + 1)) at f e (text-walk table seven rest (at + 1) f e) (sign_of table (character seven b)) refl h
 
 -- ---- the walk over clear text
 
 -- behind the DLE b
-module _ (b c : ℕ) (rest : List ℕ) (go : Field → Walked) (at : ℕ) (f : Field) (e : EndSign) (first : sign_of (character false b) ≡ dle)
-    (ih : (go Clear).stop ≡ ended f e → Closed true false ClearDle f rest (go Clear)) where
-  paired : {ks : List Mark} → Part true false true (c ∷ rest) ks → Part true false false (b ∷ c ∷ rest) (LeftOut ∷ ks)
-  paired {ks} p = part_left_out true false false true b (c ∷ rest) ks p (λ bs. kept_clear b bs dle first)
+module _ (table : CodeTable) (b c : ℕ) (rest : List ℕ) (go : Field → Walked) (at : ℕ) (f : Field) (e : EndSign) (first : sign_of table (character false b) ≡ dle)
+    (ih : (go Clear).stop ≡ ended f e → Closed table true false ClearDle f rest (go Clear)) where
+  paired : {ks : List Mark} → Part table true false true (c ∷ rest) ks → Part table true false false (b ∷ c ∷ rest) (LeftOut ∷ ks)
+  paired {ks} p = part_left_out table true false false true b (c ∷ rest) ks p (λ bs. kept_clear table b bs dle first)
 
-  pair_step : (s : Sign) → sign_of (character false c) ≡ s → (onward go ClearDle at (in_clear_dle s)).stop ≡ ended f e
-      → Closed true false ClearDle f (b ∷ c ∷ rest) (ahead LeftOut (onward go ClearDle at (in_clear_dle s)))
+  pair_step : (s : Sign) → sign_of table (character false c) ≡ s → (onward go ClearDle at (in_clear_dle s)).stop ≡ ended f e
+      → Closed table true false ClearDle f (b ∷ c ∷ rest) (ahead LeftOut (onward go ClearDle at (in_clear_dle s)))
   pair_step soh q h = absurd (no_end h)
   pair_step stx q h = absurd (no_end h)
-  pair_step etx q h = record { field = cc; part = part_clear_end b c rest }
+  pair_step etx q h = record { field = cc; part = part_clear_end table b c rest }
   pair_step dle q h =
       record {
         field = (ih h).field;
-        part = paired (part_text true false true false c rest _ (ih h).part (λ bs. kept-behind c bs dle q));
+        part = paired (part_text table true false true false c rest _ (ih h).part (λ bs. kept-behind table c bs dle q));
       }
   pair_step syn q h =
       record {
         field = (ih h).field;
-        part = paired (part_left_out true false true false c rest _ (ih h).part (λ bs. kept-behind c bs syn q));
+        part = paired (part_left_out table true false true false c rest _ (ih h).part (λ bs. kept-behind table c bs syn q));
       }
-  pair_step etb q h = record { field = cc; part = part_clear_end b c rest }
-  pair_step us q h = record { field = cc; part = part_clear_end b c rest }
+  pair_step etb q h = record { field = cc; part = part_clear_end table b c rest }
+  pair_step us q h = record { field = cc; part = part_clear_end table b c rest }
   pair_step other q h = absurd (no_end h)
 
 -- `pair`: where b is a DLE
-module _ (b : ℕ) (rest : List ℕ) (go : Field → Walked) (at : ℕ) (f : Field) (e : EndSign)
-    (ih : (go Clear).stop ≡ ended f e → Closed true false ClearDle f rest (go Clear))
-    (pair : sign_of (character false b) ≡ dle → (go ClearDle).stop ≡ ended f e
-    → Closed true false ClearDle f (b ∷ rest) (ahead LeftOut (go ClearDle))) where
-  plain_step : (s : Sign) → is_dle s ≡ false → sign_of (character false b) ≡ s → (go Clear).stop ≡ ended f e
-      → Closed true false ClearDle f (b ∷ rest) (ahead TextByte (go Clear))
+module _ (table : CodeTable) (b : ℕ) (rest : List ℕ) (go : Field → Walked) (at : ℕ) (f : Field) (e : EndSign)
+    (ih : (go Clear).stop ≡ ended f e → Closed table true false ClearDle f rest (go Clear))
+    (pair : sign_of table (character false b) ≡ dle → (go ClearDle).stop ≡ ended f e
+    → Closed table true false ClearDle f (b ∷ rest) (ahead LeftOut (go ClearDle))) where
+  plain_step : (s : Sign) → is_dle s ≡ false → sign_of table (character false b) ≡ s → (go Clear).stop ≡ ended f e
+      → Closed table true false ClearDle f (b ∷ rest) (ahead TextByte (go Clear))
   plain_step s n q h =
       record {
         field = (ih h).field;
         part =
-            part_text true false false false b rest _ (ih h).part
-            (λ bs. kept_clear b bs s q ∙ ap (λ x. cons_if (not x) b (kept_bytes true false x bs)) n);
+            part_text table true false false false b rest _ (ih h).part
+            (λ bs. kept_clear table b bs s q ∙ ap (λ x. cons_if (not x) b (kept_bytes table true false x bs)) n);
       }
 
-  clear_step : (s : Sign) → sign_of (character false b) ≡ s → (onward go Clear at (in_clear s)).stop ≡ ended f e
-      → Closed true false ClearDle f (b ∷ rest) (onward go Clear at (in_clear s))
+  clear_step : (s : Sign) → sign_of table (character false b) ≡ s → (onward go Clear at (in_clear s)).stop ≡ ended f e
+      → Closed table true false ClearDle f (b ∷ rest) (onward go Clear at (in_clear s))
   clear_step soh q h = plain_step soh refl q h
   clear_step stx q h = plain_step stx refl q h
   clear_step etx q h = plain_step etx refl q h
@@ -197,13 +197,13 @@ module _ (b : ℕ) (rest : List ℕ) (go : Field → Walked) (at : ℕ) (f : Fie
   clear_step us q h = plain_step us refl q h
   clear_step other q h = plain_step other refl q h
 
-pub clear_walk : (l : List ℕ) (at : ℕ) (f : Field) (e : EndSign) → (walk false l at Clear).stop ≡ ended f e
-    → Closed true false ClearDle f l (walk false l at Clear)
-clear_walk [] at f e h = absurd (no_end h)
-clear_walk (b ∷ []) at f e h =
-    clear_step b [] (walk false [] (at + 1)) at f e (λ n. absurd (no_end n)) (λ q n. absurd (no_end n)) (sign_of (character false b)) refl h
-clear_walk (b ∷ c ∷ rest) at f e h =
-    clear_step b (c ∷ rest) (walk false (c ∷ rest) (at + 1)) at f e (clear_walk (c ∷ rest) (at + 1) f e)
-    (λ q. pair_step b c rest (walk false rest (at + 1 + 1)) (at + 1) f e q (clear_walk rest (at + 1 + 1) f e)
-    (sign_of (character false c)) refl)
-    (sign_of (character false b)) refl h
+pub clear_walk : (table : CodeTable) (l : List ℕ) (at : ℕ) (f : Field) (e : EndSign) → (walk table false l at Clear).stop ≡ ended f e
+    → Closed table true false ClearDle f l (walk table false l at Clear)
+clear_walk table [] at f e h = absurd (no_end h)
+clear_walk table (b ∷ []) at f e h =
+    clear_step table b [] (walk table false [] (at + 1)) at f e (λ n. absurd (no_end n)) (λ q n. absurd (no_end n)) (sign_of table (character false b)) refl h
+clear_walk table (b ∷ c ∷ rest) at f e h =
+    clear_step table b (c ∷ rest) (walk table false (c ∷ rest) (at + 1)) at f e (clear_walk table (c ∷ rest) (at + 1) f e)
+    (λ q. pair_step table b c rest (walk table false rest (at + 1 + 1)) (at + 1) f e q (clear_walk table rest (at + 1 + 1) f e)
+    (sign_of table (character false c)) refl)
+    (sign_of table (character false b)) refl h

@@ -17,7 +17,7 @@ use Rattle.block.specs.declared.Field.{Field}
 use Rattle.block.specs.declared.Field.TheVariants.{Start, StartDle, Header, HeaderDle, Text, Clear, ClearDle}
 use Rattle.block.specs.declared.Judged.{Judged}
 use Rattle.block.specs.declared.Judged.TheVariants.{Is, Ends}
-use Rattle.block.specs.Signs.{Sign, soh, stx, etx, dle, syn, etb, us, other, sign_of, is_syn, is_dle}
+use Rattle.block.specs.Signs.{CodeTable, Sign, soh, stx, etx, dle, syn, etb, us, other, sign_of, is_syn, is_dle}
 use Rattle.block.specs.Characters.{character}
 use Rattle.block.specs.Walk.{onward, judge, walk}
 use Rattle.block.specs.Write.{is_other}
@@ -35,21 +35,21 @@ use Rattle.block_framing.specs.Runs.{data_mark}
 
 -- ---- the place of the start
 
-fill_from : (seven : Bool) (at : ℕ) (l : List ℕ) → first_failing (is_fill seven) at l ≡ at + start_of seven l
+fill_from : (table : CodeTable) (seven : Bool) (at : ℕ) (l : List ℕ) → first_failing (is_fill table seven) at l ≡ at + start_of table seven l
 unfolding first_failing is_fill
-fill_from seven at [] = sym (add-zero at)
-fill_from seven at (b ∷ l) = go (is_syn (sign_of (character seven b))) (fill_from seven (at + 1) l)
+fill_from table seven at [] = sym (add-zero at)
+fill_from table seven at (b ∷ l) = go (is_syn (sign_of table (character seven b))) (fill_from table seven (at + 1) l)
   where
-    go : (t : Bool) → first_failing (is_fill seven) (at + 1) l ≡ at + 1 + start_of seven l
-        → cond t (first_failing (is_fill seven) (at + 1) l) at ≡ at + cond t (start_of seven l + 1) 0
+    go : (t : Bool) → first_failing (is_fill table seven) (at + 1) l ≡ at + 1 + start_of table seven l
+        → cond t (first_failing (is_fill table seven) (at + 1) l) at ≡ at + cond t (start_of table seven l + 1) 0
     go true e = omega (arith, e)
     go false e = omega arith
 
-pub start_is : (seven : Bool) (line : List ℕ) {r : ℕ} → r ≡ first_failing (is_fill seven) 0 line → r ≡ start_of seven line
-start_is seven line e = omega (arith, e, fill_from seven 0 line)
+pub start_is : (table : CodeTable) (seven : Bool) (line : List ℕ) {r : ℕ} → r ≡ first_failing (is_fill table seven) 0 line → r ≡ start_of table seven line
+start_is table seven line e = omega (arith, e, fill_from table seven 0 line)
 
-pub start-within : (seven : Bool) (line : List ℕ) {r : ℕ} → r ≡ first_failing (is_fill seven) 0 line → r ≤ length line
-start-within seven line e = omega (arith, e, (reached (is_fill seven) 0 line).within)
+pub start-within : (table : CodeTable) (seven : Bool) (line : List ℕ) {r : ℕ} → r ≡ first_failing (is_fill table seven) 0 line → r ≤ length line
+start-within table seven line e = omega (arith, e, (reached (is_fill table seven) 0 line).within)
 
 -- ---- what is kept stays below the place
 
@@ -66,41 +66,41 @@ small_leave End t i s = record { inner = omega (arith, s.inner); all = omega (ar
 
 -- ---- the invariant: what is left of the walk gives the whole
 
-pub record Walking (seven : Bool) (line : List ℕ) (t : LeftOuts) (f : Field) (i : ℕ) : Type 0 where
+pub record Walking (table : CodeTable) (seven : Bool) (line : List ℕ) (t : LeftOuts) (f : Field) (i : ℕ) : Type 0 where
   pub within : i ≤ length line
   pub size : length line ≤ line_limit
   pub small : Small t i
-  pub rest : walk_answer (start_of seven line) t i (walk seven (drop i line) i f) ≡ walk_answer (start_of seven line) no_left_outs 0 (walk seven line 0 Start)
+  pub rest : walk_answer (start_of table seven line) t i (walk table seven (drop i line) i f) ≡ walk_answer (start_of table seven line) no_left_outs 0 (walk table seven line 0 Start)
 
-module _ {seven : Bool} {line : List ℕ} {t : LeftOuts} {f : Field} {i : ℕ} (w : Walking seven line t f i) where
-  module _ (below : i < length line) {c : ℕ} {j : Judged} (char : c ≡ character seven (get_or line i 0)) (judged : j ≡ judge seven f (sign_of c)) where
+module _ {table : CodeTable} {seven : Bool} {line : List ℕ} {t : LeftOuts} {f : Field} {i : ℕ} (w : Walking table seven line t f i) where
+  module _ (below : i < length line) {c : ℕ} {j : Judged} (char : c ≡ character seven (get_or line i 0)) (judged : j ≡ judge seven f (sign_of table c)) where
     -- the byte at i, then the walk from i + 1 on
     pub turned : (k : Judged) → j ≡ k
-        → walk_answer (start_of seven line) t i (onward (walk seven (drop (i + 1) line) (i + 1)) f i k) ≡ walk_answer (start_of seven line) no_left_outs 0 (walk seven line 0 Start)
+        → walk_answer (start_of table seven line) t i (onward (walk table seven (drop (i + 1) line) (i + 1)) f i k) ≡ walk_answer (start_of table seven line) no_left_outs 0 (walk table seven line 0 Start)
     turned k e =
-        sym (ap (λ x. walk_answer (start_of seven line) t i (onward (walk seven (drop (i + 1) line) (i + 1)) f i x)) (sym (ap (λ x. judge seven f (sign_of x)) char) ∙ sym judged ∙ e))
-        ∙ ap (λ n. walk_answer (start_of seven line) t i (onward (walk seven (drop n line) (i + 1)) f i (judge seven f (sign_of (character seven (get_or line i 0)))))) (add-one i)
-        ∙ sym (ap (λ l. walk_answer (start_of seven line) t i (walk seven l i f)) (drop-cons line i 0 below)) ∙ w.rest
+        sym (ap (λ x. walk_answer (start_of table seven line) t i (onward (walk table seven (drop (i + 1) line) (i + 1)) f i x)) (sym (ap (λ x. judge seven f (sign_of table x)) char) ∙ sym judged ∙ e))
+        ∙ ap (λ n. walk_answer (start_of table seven line) t i (onward (walk table seven (drop n line) (i + 1)) f i (judge seven f (sign_of table (character seven (get_or line i 0)))))) (add-one i)
+        ∙ sym (ap (λ l. walk_answer (start_of table seven line) t i (walk table seven l i f)) (drop-cons line i 0 below)) ∙ w.rest
 
-    pub on : {k : Mark} {g : Field} {u : LeftOuts} → j ≡ Is k g → u ≡ leave k i t → Walking seven line u g (i + 1)
+    pub on : {k : Mark} {g : Field} {u : LeftOuts} → j ≡ Is k g → u ≡ leave k i t → Walking table seven line u g (i + 1)
     on {k} {g} e b =
         record {
           within = omega arith;
           size = w.size;
           small = rw b (small_leave k t i w.small);
-          rest = ap (λ x. walk_answer (start_of seven line) x (i + 1) (walk seven (drop (i + 1) line) (i + 1) g)) b ∙ turned (Is k g) e;
+          rest = ap (λ x. walk_answer (start_of table seven line) x (i + 1) (walk table seven (drop (i + 1) line) (i + 1) g)) b ∙ turned (Is k g) e;
         }
 
-    pub ends : {e : EndSign} {start signs : ℕ} {r : Segments} → j ≡ Ends e → start ≡ first_failing (is_fill seven) 0 line → signs ≡ text_signs f
-        → r ≡ segments_at start signs e t (i + 1) → framed r ≡ walk_answer (start_of seven line) no_left_outs 0 (walk seven line 0 Start)
+    pub ends : {e : EndSign} {start signs : ℕ} {r : Segments} → j ≡ Ends e → start ≡ first_failing (is_fill table seven) 0 line → signs ≡ text_signs f
+        → r ≡ segments_at start signs e t (i + 1) → framed r ≡ walk_answer (start_of table seven line) no_left_outs 0 (walk table seven line 0 Start)
     ends {e} {start} {signs} q a b x =
-        ap framed (x ∙ ap (λ n. segments_at n signs e t (i + 1)) (start_is seven line a) ∙ ap (λ n. segments_at (start_of seven line) n e t (i + 1)) b)
+        ap framed (x ∙ ap (λ n. segments_at n signs e t (i + 1)) (start_is table seven line a) ∙ ap (λ n. segments_at (start_of table seven line) n e t (i + 1)) b)
         ∙ turned (Ends e) q
 
 -- ---- runs of data
 
 -- which signs are data
-module _ (seven : Bool) where
+module _ (table : CodeTable) (seven : Bool) where
   header_data : (s : Sign) → is_other s && true ≡ true → judge seven Header s ≡ Is HeaderByte Header
   header_data soh e = absurd (true≢false (sym e))
   header_data stx e = absurd (true≢false (sym e))
@@ -131,52 +131,52 @@ module _ (seven : Bool) where
   clear_data us e = refl
   clear_data other e = refl
 
-  data_of : (f : Field) (b : ℕ) → is_data seven f b ≡ true → judge seven f (sign_of (character seven b)) ≡ Is (data_mark f) f
+  data_of : (f : Field) (b : ℕ) → is_data table seven f b ≡ true → judge seven f (sign_of table (character seven b)) ≡ Is (data_mark f) f
   unfolding is_plain_byte is_clear_byte
   data_of Start b e = absurd (true≢false (sym e))
   data_of StartDle b e = absurd (true≢false (sym e))
-  data_of Header b e = header_data (sign_of (character seven b)) e
+  data_of Header b e = header_data (sign_of table (character seven b)) e
   data_of HeaderDle b e = absurd (true≢false (sym e))
-  data_of Text b e = text_data (sign_of (character seven b)) e
-  data_of Clear b e = clear_data (sign_of (character seven b)) e
+  data_of Text b e = text_data (sign_of table (character seven b)) e
+  data_of Clear b e = clear_data (sign_of table (character seven b)) e
   data_of ClearDle b e = absurd (true≢false (sym e))
 
 -- a byte of data leaves what is kept
-leave_data : (f : Field) (i : ℕ) (t : LeftOuts) → (b : ℕ) (seven : Bool) → is_data seven f b ≡ true → leave (data_mark f) i t ≡ t
-leave_data Start i t b seven e = absurd (true≢false (sym e))
-leave_data StartDle i t b seven e = absurd (true≢false (sym e))
-leave_data Header i t b seven e = refl
-leave_data HeaderDle i t b seven e = absurd (true≢false (sym e))
-leave_data Text i t b seven e = refl
-leave_data Clear i t b seven e = refl
-leave_data ClearDle i t b seven e = absurd (true≢false (sym e))
+leave_data : (f : Field) (i : ℕ) (t : LeftOuts) → (b : ℕ) (table : CodeTable) (seven : Bool) → is_data table seven f b ≡ true → leave (data_mark f) i t ≡ t
+leave_data Start i t b table seven e = absurd (true≢false (sym e))
+leave_data StartDle i t b table seven e = absurd (true≢false (sym e))
+leave_data Header i t b table seven e = refl
+leave_data HeaderDle i t b table seven e = absurd (true≢false (sym e))
+leave_data Text i t b table seven e = refl
+leave_data Clear i t b table seven e = refl
+leave_data ClearDle i t b table seven e = absurd (true≢false (sym e))
 
 -- the walk passes over a run
-passes : {seven : Bool} {line : List ℕ} (n : ℕ) {t : LeftOuts} {f : Field} {i : ℕ} → Walking seven line t f i → i + n ≤ length line
-    → ((k : ℕ) → i ≤ k → k < i + n → is_data seven f (get_or line k 0) ≡ true) → Walking seven line t f (i + n)
-passes {seven} {line} zero {t} {f} {i} w h all = rw (add-zero i) w
-passes {seven} {line} (suc n) {t} {f} {i} w h all =
+passes : {table : CodeTable} {seven : Bool} {line : List ℕ} (n : ℕ) {t : LeftOuts} {f : Field} {i : ℕ} → Walking table seven line t f i → i + n ≤ length line
+    → ((k : ℕ) → i ≤ k → k < i + n → is_data table seven f (get_or line k 0) ≡ true) → Walking table seven line t f (i + n)
+passes {table} {seven} {line} zero {t} {f} {i} w h all = rw (add-zero i) w
+passes {table} {seven} {line} (suc n) {t} {f} {i} w h all =
     let here = all i (omega arith) (omega arith) in
-    let step = on w (omega arith) refl refl (data_of seven f (get_or line i 0) here) (sym (leave_data f i t (get_or line i 0) seven here)) in
+    let step = on w (omega arith) refl refl (data_of table seven f (get_or line i 0) here) (sym (leave_data f i t (get_or line i 0) table seven here)) in
     let e : i + 1 + n ≡ i + suc n = omega arith in
-    subst (λ (m : ℕ). Walking seven line t f m) e (passes n step (omega arith) (λ k l m. all k (omega arith) (omega arith)))
+    subst (λ (m : ℕ). Walking table seven line t f m) e (passes n step (omega arith) (λ k l m. all k (omega arith) (omega arith)))
 
 -- the run that a scan of the rest of the line finds
-module _ (seven : Bool) (f : Field) (line : List ℕ) (from : ℕ) (h : from ≤ length line) {r : ℕ}
-    (e : r ≡ first_failing (is_data seven f) 0 (take (length line - from) (drop from line))) where
-  scanned : Reached (is_data seven f) 0 (drop from line) r
+module _ (table : CodeTable) (seven : Bool) (f : Field) (line : List ℕ) (from : ℕ) (h : from ≤ length line) {r : ℕ}
+    (e : r ≡ first_failing (is_data table seven f) 0 (take (length line - from) (drop from line))) where
+  scanned : Reached (is_data table seven f) 0 (drop from line) r
   scanned =
       let p : take (length line - from) (drop from line) ≡ drop from line =
       ap (λ n. take n (drop from line)) (sym (length-drop from line)) ∙ take-length (drop from line) in
-      rw (e, p) (reached (is_data seven f) 0 (drop from line))
+      rw (e, p) (reached (is_data table seven f) 0 (drop from line))
 
   pub run-within : from + r ≤ length line
   run-within = omega (arith, scanned.within, length-drop from line)
 
-  pub pass : {t : LeftOuts} → Walking seven line t f from → Walking seven line t f (from + r)
+  pub pass : {t : LeftOuts} → Walking table seven line t f from → Walking table seven line t f (from + r)
   pass w =
       passes r w run-within
       (λ k l m.
       let p : from + (k - from) ≡ k = omega arith in
-      sym (ap (λ n. is_data seven f (get_or line n 0)) p)
-      ∙ sym (ap (is_data seven f) (get_or-drop from line (k - from) 0)) ∙ scanned.all (k - from) (omega arith))
+      sym (ap (λ n. is_data table seven f (get_or line n 0)) p)
+      ∙ sym (ap (is_data table seven f) (get_or-drop from line (k - from) 0)) ∙ scanned.all (k - from) (omega arith))

@@ -3,6 +3,7 @@
 use Rattle.std.specs.Prelude.{◌≡◌, ℕ, ◌+◌, ◌-◌, ◌≤◌, ◌<◌, Bool, false, cond, not, ◌&&◌, List, [], ◌∷◌, ◌++◌, eqb, length, get_or, Result, Ok, Err}
 use Rattle.std.proofs.Math.Seq.{slice}
 use Rattle.bits.specs.Differences.{cons_if}
+use Rattle.block.specs.declared.Link.{Link}
 use Rattle.block.specs.declared.Shape.{Shape}
 use Rattle.block.specs.declared.Shape.TheVariants as shape
 use Rattle.block.specs.declared.EndSign.{EndSign}
@@ -11,10 +12,12 @@ use Rattle.block.specs.declared.Mark.TheVariants.{LeftOut, HeaderByte, TextByte,
 use Rattle.block.specs.declared.ReadRefusal.{ReadRefusal}
 use Rattle.block.specs.declared.Field.{Field}
 use Rattle.block.specs.declared.Field.TheVariants.{Start, StartDle, Header, HeaderDle, Text, Clear, ClearDle}
-use Rattle.block.specs.Signs.{SYN, DLE, sign_of, is_syn}
-use Rattle.block.specs.Characters.{character}
+use Rattle.block.specs.Signs.{CodeTable, table_of, sign_of, is_syn}
+use Rattle.block.specs.Characters.{is_seven, character}
+use Rattle.block.specs.Walk.{walk}
 use Rattle.block.specs.Marks.{counted, is_header, is_text, sift}
 use Rattle.block.specs.Read.{Framed, found, unframed}
+use Rattle.block.specs.Read as rule
 use Rattle.block.specs.Write.{is_clear}
 use Rattle.block.specs.Answers.{read_number, read_value}
 use Rattle.block_framing.specs.declared.Segments.{Segments}
@@ -48,10 +51,10 @@ tallied t at (k ∷ ks) = tallied (add_mark k at t) (at + 1) ks
 
 -- ---- the start
 
--- how many SYN stand ahead of the start, which is its place
-abbrev pub start_of : Bool → List ℕ → ℕ
-start_of seven [] = 0
-start_of seven (b ∷ rest) = cond (is_syn (sign_of (character seven b))) (start_of seven rest + 1) 0
+-- how many table.SYN stand ahead of the start, which is its place
+abbrev pub start_of : CodeTable → Bool → List ℕ → ℕ
+start_of table seven [] = 0
+start_of table seven (b ∷ rest) = cond (is_syn (sign_of table (character seven b))) (start_of table seven rest + 1) 0
 
 -- ---- the framing
 
@@ -100,34 +103,41 @@ of_walk (Ok f) = framed f
 of_walk (Err r) = refusal (read_number r) (read_value r)
 
 -- the answer for a line that passed the questions up to 17
-abbrev pub framed_answer : Bool → List ℕ → Framed → WalkAnswer
-framed_answer seven line (found ks f e) = framed (framing_at (start_of seven line) f e (tallied no_tally 0 ks) (length ks))
-framed_answer seven line (unframed number value) = refusal number value
+abbrev pub framed_answer : CodeTable → Bool → List ℕ → Framed → WalkAnswer
+framed_answer table seven line (found ks f e) = framed (framing_at (start_of table seven line) f e (tallied no_tally 0 ks) (length ks))
+framed_answer table seven line (unframed number value) = refusal number value
+
+-- of a line of a link: the whole answer, and that for a walk that passed the questions up to 12
+abbrev pub framing_for : Link → List ℕ → WalkAnswer
+framing_for l line = framed_answer (table_of l.code) (is_seven l.method) line (rule.framed (table_of l.code) l.method l.parity line)
+
+abbrev pub walked_for : Link → List ℕ → WalkAnswer
+walked_for l line = framed_answer (table_of l.code) (is_seven l.method) line (rule.ask_walk l.method line (walk (table_of l.code) (is_seven l.method) line 0 Start))
 
 -- ---- bytes by their segments
 
--- whether a byte of a segment is header or text. In header and plain text SYN is left out; in clear text the first DLE of a pair
--- is, and a SYN `behind` a DLE
-unfoldable pub is_kept : Bool → Bool → Bool → ℕ → Bool
-is_kept clear seven behind b = not (cond clear (cond behind (eqb b SYN) (eqb b DLE)) (eqb (character seven b) SYN))
+-- whether a byte of a segment is header or text. In header and plain text table.SYN is left out; in clear text the first DLE of a pair
+-- is, and a table.SYN `behind` a DLE
+unfoldable pub is_kept : CodeTable → Bool → Bool → Bool → ℕ → Bool
+is_kept table clear seven behind b = not (cond clear (cond behind (eqb b table.SYN) (eqb b table.DLE)) (eqb (character seven b) table.SYN))
 
-unfoldable pub next_behind : Bool → Bool → ℕ → Bool
-next_behind clear behind b = clear && (not behind && eqb b DLE)
+unfoldable pub next_behind : CodeTable → Bool → Bool → ℕ → Bool
+next_behind table clear behind b = clear && (not behind && eqb b table.DLE)
 
-unfoldable pub kept_bytes : Bool → Bool → Bool → List ℕ → List ℕ
-kept_bytes clear seven behind [] = []
-kept_bytes clear seven behind (b ∷ bs) = cons_if (is_kept clear seven behind b) b (kept_bytes clear seven (next_behind clear behind b) bs)
+unfoldable pub kept_bytes : CodeTable → Bool → Bool → Bool → List ℕ → List ℕ
+kept_bytes table clear seven behind [] = []
+kept_bytes table clear seven behind (b ∷ bs) = cons_if (is_kept table clear seven behind b) b (kept_bytes table clear seven (next_behind table clear behind b) bs)
 
-unfoldable pub header_in : Bool → Segments → List ℕ → List ℕ
-header_in seven f line = kept_bytes false seven false (slice f.head f.inner line)
+unfoldable pub header_in : CodeTable → Bool → Segments → List ℕ → List ℕ
+header_in table seven f line = kept_bytes table false seven false (slice f.head f.inner line)
 
-unfoldable pub text_in : Bool → Segments → List ℕ → List ℕ
-text_in seven f line = kept_bytes (is_clear f.shape) seven false (slice f.body f.tail line)
+unfoldable pub text_in : CodeTable → Bool → Segments → List ℕ → List ℕ
+text_in table seven f line = kept_bytes table (is_clear f.shape) seven false (slice f.body f.tail line)
 
 -- header, inner start, text, end sign
-unfoldable pub counted_in : Bool → Segments → List ℕ → List ℕ
-counted_in seven f line =
-    header_in seven f line ++ (slice f.inner f.body line ++ (text_in seven f line ++ get_or line (f.after - 1) 0 ∷ []))
+unfoldable pub counted_in : CodeTable → Bool → Segments → List ℕ → List ℕ
+counted_in table seven f line =
+    header_in table seven f line ++ (slice f.inner f.body line ++ (text_in table seven f line ++ get_or line (f.after - 1) 0 ∷ []))
 
 -- the segments stand in order within the line
 pub record Ordered (f : Segments) (size : ℕ) : Type 0 where
@@ -138,8 +148,8 @@ pub record Ordered (f : Segments) (size : ℕ) : Type 0 where
   pub within : f.after ≤ size
 
 -- a framing finds what the marks say
-pub record Segmented (seven : Bool) (line : List ℕ) (ks : List Mark) (f : Segments) : Type 0 where
+pub record Segmented (table : CodeTable) (seven : Bool) (line : List ℕ) (ks : List Mark) (f : Segments) : Type 0 where
   pub ordered : Ordered f (length line)
-  pub headers : sift is_header ks line ≡ header_in seven f line
-  pub texts : sift is_text ks line ≡ text_in seven f line
-  pub counts : counted ks line ≡ counted_in seven f line
+  pub headers : sift is_header ks line ≡ header_in table seven f line
+  pub texts : sift is_text ks line ≡ text_in table seven f line
+  pub counts : counted ks line ≡ counted_in table seven f line

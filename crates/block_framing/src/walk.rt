@@ -1,13 +1,14 @@
 // The walk over a line, questions 13 to 15.
 ghost use Rattle.std.specs.Prelude.{◌≡◌, ◌≤◌, length};
 ghost use Rattle.block.specs.Limits.{line_limit};
+ghost use Rattle.block.specs.Signs.{table_of};
 ghost use Rattle.block.specs.Walk as rule;
 ghost use Rattle.block_framing.specs.Framings.{start_of, of_walk};
 ghost use Rattle.block_framing.specs.Walks as walks;
 
 use crate::ending::Ending;
 use crate::{FirstInnerStart, LeftOuts, Segments};
-use block::{BytePlace, Field, Judged, Mark, ReadRefusal, character};
+use block::{BytePlace, Code, Field, Judged, Mark, ReadRefusal, character, in_koi7};
 use block_end::{cut, fill_ahead, text_signs};
 use block_fields::judge;
 use block_scan::data_run;
@@ -47,24 +48,24 @@ impl LeftOuts {
 }
 
 // A turn passes a byte and the run of data behind it, so the place moves on by what was passed, and no `for` is plainer.
-pub(crate) fn walk(seven: bool, line: &[u8]) -> Result<Segments, ReadRefusal>
+pub(crate) fn walk(code: Code, seven: bool, line: &[u8]) -> Result<Segments, ReadRefusal>
     requires { length line.now ≤ line_limit }
-    ensures { of_walk result ≡ walks.walk_answer (start_of seven line.now) walks.no_left_outs 0 (rule.walk seven line.now 0 Field.Start) }
+    ensures { of_walk result ≡ walks.walk_answer (start_of (table_of code) seven line.now) walks.no_left_outs 0 (rule.walk (table_of code) seven line.now 0 Field.Start) }
 {
     let mut t = LeftOuts::none();
     let mut f = Field::Start;
     let mut i = 0;
     while i < line.len() {
-        match judge(seven, f, character(seven, line[i])) {
+        match judge(seven, f, in_koi7(code, character(seven, line[i]))) {
             Judged::Is(k, g) => {
                 let next = i + 1;
                 t = t.leave(k, i);
                 f = g;
-                i = next + data_run(seven, g, &line[next..]);
+                i = next + data_run(code, seven, g, &line[next..]);
             }
             Judged::Ends(e) => {
                 let ending = Ending {
-                    start: fill_ahead(seven, line),
+                    start: fill_ahead(code, seven, line),
                     signs: text_signs(f),
                     end: e,
                     after: i + 1,

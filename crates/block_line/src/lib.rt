@@ -2,12 +2,13 @@
 #![tactic(auto)]
 
 ghost use Rattle.std.specs.Prelude.{map};
+ghost use Rattle.block.specs.Signs.{table_of};
 ghost use Rattle.block.specs.Characters as characters;
 ghost use Rattle.block.specs.Lent.{line_of_parts};
 ghost use Rattle.block_store.specs.Store.{Stored};
 ghost use Rattle.block_line.specs.Line.{text_bytes};
 
-use block::{Link, Parity, Parts, is_clear, is_seven};
+use block::{Code, Link, Parity, Parts, is_clear, is_seven};
 use block_checks::written_check;
 use block_signs::{end_signs, inner_signs, start_signs};
 use block_store::{store_characters, store_clear, store_each};
@@ -21,7 +22,7 @@ fn put_text(
     out: &mut [u8],
     at: usize,
 ) -> usize
-    ensures { Stored out.old at (map (characters.sent seven parity) (text_bytes clear text.now)) out.new result }
+    ensures { (code : Code) → Stored out.old at (map (characters.sent seven parity) (text_bytes (table_of code) clear text.now)) out.new result }
 {
     if clear {
         return store_clear(seven, parity, text, &mut *out, at);
@@ -43,7 +44,7 @@ pub fn put_line(link: Link, parts: &Parts<'_>, out: &mut [u8]) -> usize
     let inner_signs = inner_signs(parts.shape);
     let inner = store_each(seven, parity, inner_signs.as_slice(), &mut *out, head);
     let body = put_text(seven, parity, clear, parts.text, &mut *out, inner);
-    let end_signs = end_signs(clear, parts.end);
+    let end_signs = end_signs(link.code, clear, parts.end);
     let ending = store_each(seven, parity, end_signs.as_slice(), &mut *out, body);
     store_each(false, parity, check.as_slice(), &mut *out, ending)
 }

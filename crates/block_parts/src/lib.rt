@@ -2,12 +2,13 @@
 #![tactic(auto)]
 
 ghost use Rattle.std.specs.Prelude.{◌≡◌, cond, ◌&&◌, ◌||◌, ◌+◌, leb, eqb, length};
+ghost use Rattle.block.specs.Signs.{table_of};
 ghost use Rattle.block.specs.Limits.{counted_limit};
 ghost use Rattle.block.specs.Scan.{first_failing};
 ghost use Rattle.block.specs.Write as rule;
 ghost use Rattle.block_parts.specs.Parts.{ask_parts, after_asked};
 
-use block::{BytePlace, COUNTED_LIMIT, Parts, Shape, WriteRefusal, is_clear};
+use block::{BytePlace, COUNTED_LIMIT, Code, Parts, Shape, WriteRefusal, is_clear};
 use block_scan::plain_run;
 use block_signs::inner_signs;
 
@@ -25,19 +26,19 @@ fn parts_fit(shape: Shape, header: usize, text: usize) -> bool
 }
 
 // Question 3: the first place of a text whose byte is not free, or the text's length. Clear text may hold every byte.
-fn text_run(seven: bool, clear: bool, text: &[u8]) -> usize
-    ensures { result ≡ cond clear (length text.now) (first_failing (rule.is_free seven) 0 text.now) }
+fn text_run(code: Code, seven: bool, clear: bool, text: &[u8]) -> usize
+    ensures { result ≡ cond clear (length text.now) (first_failing (rule.is_free (table_of code) seven) 0 text.now) }
 {
     if clear {
         text.len()
     } else {
-        plain_run(false, seven, text)
+        plain_run(code, false, seven, text)
     }
 }
 
 // Question 5: header, inner start, text and end sign are at most 4,096.
 fn count_fits(shape: Shape, header: usize, text: usize) -> bool
-    ensures { result ≡ leb (header + length (rule.inner_signs shape) + text + 1) counted_limit }
+    ensures { (code : Code) → result ≡ leb (header + length (rule.inner_signs (table_of code) shape) + text + 1) counted_limit }
 {
     if header > COUNTED_LIMIT {
         return false;
@@ -49,8 +50,8 @@ fn count_fits(shape: Shape, header: usize, text: usize) -> bool
 }
 
 // The questions of parts in methods 1, 2 and 7 (`seven`) or in 3 and 4.
-pub fn ask_parts(seven: bool, parts: &Parts<'_>) -> Result<(), WriteRefusal>
-    ensures { (next : rule.WriteAnswer) → after_asked result next ≡ ask_parts seven parts.now.shape parts.now.header.now parts.now.text.now next }
+pub fn ask_parts(code: Code, seven: bool, parts: &Parts<'_>) -> Result<(), WriteRefusal>
+    ensures { (next : rule.WriteAnswer) → after_asked result next ≡ ask_parts (table_of code) seven parts.now.shape parts.now.header.now parts.now.text.now next }
 {
     let shape = parts.shape;
     let header = parts.header;
@@ -62,11 +63,11 @@ pub fn ask_parts(seven: bool, parts: &Parts<'_>) -> Result<(), WriteRefusal>
     if !parts_fit(shape, header.len(), text.len()) {
         return Err(WriteRefusal::PartNotEmpty);
     }
-    let head = plain_run(false, seven, header);
+    let head = plain_run(code, false, seven, header);
     if head < header.len() {
         return Err(WriteRefusal::HeaderByte(BytePlace(head)));
     }
-    let body = text_run(seven, clear, text);
+    let body = text_run(code, seven, clear, text);
     if body < text.len() {
         return Err(WriteRefusal::TextByte(BytePlace(body)));
     }

@@ -1,9 +1,8 @@
 // Questions 18 and 54: the check over the counted bytes of a framed line.
 ghost use Rattle.std.specs.Prelude.{◌≡◌};
-ghost use Rattle.block.specs.Check.{check_of};
-ghost use Rattle.block.specs.Read.{ReadAnswer, ask_same};
+ghost use Rattle.block.specs.Read.{ReadAnswer};
 ghost use Rattle.block_check.specs.Asked.{after_asked};
-ghost use Rattle.block_reader.specs.Parts.{counted_of, bits_behind};
+ghost use Rattle.block_reader.specs.Parts.{ask_behind};
 
 use crate::FramedLine;
 use block::ReadRefusal;
@@ -12,7 +11,7 @@ use block_check::{add_one, add_run, add_segment, ask_check, start_of};
 impl FramedLine<'_> {
     // Whether what follows the end sign is the check of the counted bytes: header, inner start, text and end sign.
     pub(crate) fn ask_check(&self) -> Result<(), ReadRefusal>
-        ensures { (next : ReadAnswer) → after_asked result next ≡ ask_same self.now.link.method (bits_behind self.now) (check_of self.now.link.method self.now.link.parity (counted_of self.now)) next }
+        ensures { (next : ReadAnswer) → after_asked result next ≡ ask_behind self.now next }
     {
         let m = self.link.method;
         let f = self.segments;

@@ -4,6 +4,7 @@
 #![tactic(auto)]
 
 ghost use Rattle.std.specs.Prelude.{length};
+ghost use Rattle.block.specs.Signs.{table_of};
 ghost use Rattle.block.specs.Characters.{is_seven};
 ghost use Rattle.block_framing.specs.Framings.{Ordered};
 ghost use Rattle.block_reader.specs.Counts.{CountsKept};
@@ -18,7 +19,7 @@ pub(crate) struct FramedLine<'a> {
     pub segments: Segments,
     pub line: &'a [u8],
     ghost ordered: { Ordered segments (length line.now) },
-    ghost counts_kept: { CountsKept (is_seven link.method) segments line.now },
+    ghost counts_kept: { CountsKept (table_of link.code) (is_seven link.method) segments line.now },
 }
 
 mod check;

@@ -15,6 +15,7 @@ impl FramedLine<'_> {
     {
         let f = self.segments;
         Segment {
+            code: self.link.code,
             bytes: &self.line[f.head..f.inner],
             kept: f.header,
             clear: false,
@@ -26,6 +27,7 @@ impl FramedLine<'_> {
     {
         let f = self.segments;
         Segment {
+            code: self.link.code,
             bytes: &self.line[f.body..f.tail],
             kept: f.text,
             clear: is_clear(f.shape),

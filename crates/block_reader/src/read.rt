@@ -1,10 +1,8 @@
 // Reading a block: the questions up to 19, then header and text handed out.
 ghost use Rattle.std.specs.Prelude.{◌≡◌};
 ghost use Rattle.bits.specs.Calls.{called};
-ghost use Rattle.block.specs.Characters.{is_seven};
-ghost use Rattle.block.specs.Read as rule;
 ghost use Rattle.block.specs.Answers.{of_read, read_call};
-ghost use Rattle.block_framing.specs.Framings.{framed, framed_answer};
+ghost use Rattle.block_framing.specs.Framings.{framed, framing_for};
 ghost use Rattle.block_reader.specs.Counts.{held_by};
 
 use crate::FramedLine;
@@ -26,8 +24,8 @@ fn held(f: Segments) -> Block
 
 // Questions 18, 54 and 19 of a framed line, then header and text handed out.
 fn read_framed(link: Link, f: Segments, line: &[u8], out: &mut [u8]) -> Result<Block, ReadRefusal>
-    requires { framed f ≡ framed_answer (is_seven link.method) line.now (rule.framed link.method link.parity line.now) }
-    ensures { called (of_read result) out.new ≡ read_call link.method link.parity line.now out.old }
+    requires { framed f ≡ framing_for link line.now }
+    ensures { called (of_read result) out.new ≡ read_call link.code link.method link.parity line.now out.old }
 {
     let framed = FramedLine {
         link,
@@ -46,7 +44,7 @@ fn read_framed(link: Link, f: Segments, line: &[u8], out: &mut [u8]) -> Result<B
 
 // Document 01, part 3: reads one block.
 pub fn read_block(link: Link, line: &[u8], out: &mut [u8]) -> Result<Block, ReadRefusal>
-    ensures { called (of_read result) out.new ≡ read_call link.method link.parity line.now out.old }
+    ensures { called (of_read result) out.new ≡ read_call link.code link.method link.parity line.now out.old }
 {
     let f = find_framing(link, line)?;
     read_framed(link, f, line, &mut *out)

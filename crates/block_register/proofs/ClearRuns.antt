@@ -9,7 +9,7 @@ use borrow.Author.Tests.{not-true}
 use lib.Dec.{eqb}
 use lib.ListN.{length, take, drop}
 use Rattle.bits.specs.Differences.{cons_if}
-use Rattle.block.specs.Signs.{DLE}
+use Rattle.block.specs.Signs.{CodeTable, table_of}
 use Rattle.block.specs.Scan.{first_failing}
 use Rattle.block.proofs.Scans.{reached}
 use Rattle.block_framing.specs.Framings.{is_kept, next_behind, kept_bytes}
@@ -21,49 +21,49 @@ use Rattle.block_segments.proofs.Folding.{step}
 use Rattle.runs.proofs.Runs.{shifted}
 use Rattle.block_register.specs.Runs.{KeptRun}
 
-pub run_none : (behind : Bool) (part : List ℕ) → KeptRun behind part 0 0
-run_none behind part = record { on = omega arith; within = omega arith; kept = refl }
+pub run_none : (table : CodeTable) (behind : Bool) (part : List ℕ) → KeptRun table behind part 0 0
+run_none table behind part = record { on = omega arith; within = omega arith; kept = refl }
 
 -- a kept byte that stands behind no DLE is none itself
-kept_state : (b : ℕ) → is_kept true false false b ≡ true → next_behind true false b ≡ false
+kept_state : (table : CodeTable) (b : ℕ) → is_kept table true false false b ≡ true → next_behind table true false b ≡ false
 unfolding is_kept next_behind
-kept_state b e = not-true (eqb b DLE) e
+kept_state table b e = not-true (eqb b table.DLE) e
 
-abbrev run : List ℕ → ℕ
-run bs = first_failing (is_kept true false false) 0 bs
+abbrev run : CodeTable → List ℕ → ℕ
+run table bs = first_failing (is_kept table true false false) 0 bs
 
-split : (bs : List ℕ) → kept_bytes true false false bs ≡ take (run bs) bs ++ kept_bytes true false false (drop (run bs) bs)
+split : (table : CodeTable) (bs : List ℕ) → kept_bytes table true false false bs ≡ take (run table bs) bs ++ kept_bytes table true false false (drop (run table bs) bs)
 unfolding kept_bytes first_failing
-split [] = refl
-split (b ∷ bs) = go (is_kept true false false b) refl (shifted (is_kept true false false) 1 0 bs) (split bs)
+split table [] = refl
+split table (b ∷ bs) = go (is_kept table true false false b) refl (shifted (is_kept table true false false) 1 0 bs) (split table bs)
   where
-    go : (t : Bool) → is_kept true false false b ≡ t → first_failing (is_kept true false false) 1 bs ≡ 1 + run bs
-        → kept_bytes true false false bs ≡ take (run bs) bs ++ kept_bytes true false false (drop (run bs) bs)
-        → cons_if t b (kept_bytes true false (next_behind true false b) bs)
-        ≡ take (cond t (first_failing (is_kept true false false) 1 bs) 0) (b ∷ bs) ++ kept_bytes true false false (drop (cond t (first_failing (is_kept true false false) 1 bs) 0) (b ∷ bs))
+    go : (t : Bool) → is_kept table true false false b ≡ t → first_failing (is_kept table true false false) 1 bs ≡ 1 + run table bs
+        → kept_bytes table true false false bs ≡ take (run table bs) bs ++ kept_bytes table true false false (drop (run table bs) bs)
+        → cons_if t b (kept_bytes table true false (next_behind table true false b) bs)
+        ≡ take (cond t (first_failing (is_kept table true false false) 1 bs) 0) (b ∷ bs) ++ kept_bytes table true false false (drop (cond t (first_failing (is_kept table true false false) 1 bs) 0) (b ∷ bs))
     go true e n h =
-        let m : first_failing (is_kept true false false) 1 bs ≡ suc (run bs) = omega (arith, n) in
-        rw m (ap (λ z. b ∷ z) (ap (λ s. kept_bytes true false s bs) (kept_state b e) ∙ h))
-    go false e n h = ap (λ t. cons_if t b (kept_bytes true false (next_behind true false b) bs)) (sym e)
+        let m : first_failing (is_kept table true false false) 1 bs ≡ suc (run table bs) = omega (arith, n) in
+        rw m (ap (λ z. b ∷ z) (ap (λ s. kept_bytes table true false s bs) (kept_state table b e) ∙ h))
+    go false e n h = ap (λ t. cons_if t b (kept_bytes table true false (next_behind table true false b) bs)) (sym e)
 
-pub run_kept : (part : List ℕ) {n : ℕ} → n ≡ first_failing (is_kept true false false) 0 part → KeptRun false part 0 n
-run_kept part {n} e =
+pub run_kept : (table : CodeTable) (part : List ℕ) {n : ℕ} → n ≡ first_failing (is_kept table true false false) 0 part → KeptRun table false part 0 n
+run_kept table part {n} e =
     record {
       on = omega arith;
-      within = omega (arith, e, (reached (is_kept true false false) 0 part).within);
-      kept = rw (sub-zero n, e) (split part);
+      within = omega (arith, e, (reached (is_kept table true false false) 0 part).within);
+      kept = rw (sub-zero n, e) (split table part);
     }
 
 -- the run of a clear text, by the state of its bytes
-run_of : {clear seven behind : Bool} {bs : List ℕ} {n : ℕ} → clear ≡ true → seven ≡ false → KeptRun behind bs 0 n
-    → kept_bytes clear seven behind bs ≡ take n bs ++ kept_bytes clear seven behind (drop n bs)
-run_of {behind = behind} {bs = bs} {n = n} p q r = rw (p, q) (r.kept ∙ ap (λ m. take m bs ++ kept_bytes true false behind (drop n bs)) (sub-zero n))
+run_of : {table : CodeTable} {clear seven behind : Bool} {bs : List ℕ} {n : ℕ} → clear ≡ true → seven ≡ false → KeptRun table behind bs 0 n
+    → kept_bytes table clear seven behind bs ≡ take n bs ++ kept_bytes table clear seven behind (drop n bs)
+run_of {table = table} {behind = behind} {bs = bs} {n = n} p q r = rw (p, q) (r.kept ∙ ap (λ m. take m bs ++ kept_bytes table true false behind (drop n bs)) (sub-zero n))
 
 -- a byte of a clear text, and the run of kept bytes behind it at once
 pub pass : (g : List Bool) (k : Keeping) (acc : ℕ) {total entered next b n : ℕ} {k' : Keeping} {rest bs kept left : List ℕ} {keep : Bool}
     → k.clear ≡ true → k.seven ≡ false → register_after g acc (kept_of k rest) ≡ total → rest ≡ b ∷ bs
     → keep ≡ keeps k b → entered ≡ register_after g acc (cons_if keep b []) → k' ≡ after k b
-    → KeptRun k'.behind bs 0 n → kept ≡ take n bs → left ≡ drop n bs → next ≡ register_after g entered kept
+    → KeptRun (table_of k'.code) k'.behind bs 0 n → kept ≡ take n bs → left ≡ drop n bs → next ≡ register_after g entered kept
     → register_after g next (kept_of k' left) ≡ total
 pass g k acc {entered = entered} {b = b} {n = n} {k' = k'} {bs = bs} p q w e keep one s r front back run_entered =
     ap₂ (λ x y. register_after g x (kept_of k' y)) (run_entered ∙ ap (register_after g entered) front) back

@@ -19,11 +19,12 @@ use Rattle.block.specs.declared.Block.{Block}
 use Rattle.std.specs.Prelude.{Result, Ok, Err}
 use Rattle.block.specs.declared.WriteRefusal.{WriteRefusal}
 use Rattle.block.specs.declared.ReadRefusal.{ReadRefusal}
+use Rattle.block.specs.Signs.{CodeTable}
 use Rattle.block.specs.Check.{check_of}
 use Rattle.block.specs.Marks.{counted, check_bytes}
 use Rattle.block.specs.Read.{Framed, found, unframed, framed, Parts, parts_of, output_length, ReadAnswer, taken, refusal, first_asked, then_asked, ask_check, read_block, read_output}
 use Rattle.block.specs.Write as writing
-use Rattle.block.specs.Answers.{of_read, of_read_answer, after_reading, read_call, of_written, of_write_answer, write_call}
+use Rattle.block.specs.Answers.{of_read, of_read_answer, after_reading, of_written, of_write_answer, after_writing}
 use Rattle.guarantees.specs.Second.{parts_written}
 use Rattle.guarantees.proofs.Second.{second_property}
 use Rattle.roundtrip.proofs.Comparing.{joined}
@@ -45,9 +46,9 @@ same_parts a b e = cc
 abbrev by_room : Parts → ℕ → ReadAnswer
 by_room = comparing.by_room taken refusal output_length 19 same_parts not_taken
 
-other_room : (m : Method) (p : Parity) (line : List ℕ) (room space : ℕ) (b : Parts) → read_block m p line room ≡ taken b → read_block m p line space ≡ by_room b space
+other_room : (table : CodeTable) (m : Method) (p : Parity) (line : List ℕ) (room space : ℕ) (b : Parts) → read_block table m p line room ≡ taken b → read_block table m p line space ≡ by_room b space
 unfolding read_block
-other_room m p line room space b e = of-framed (framed m p line) e
+other_room table m p line room space b e = of-framed (framed table m p line) e
   where
     behind : (right : Bool) (n : ℕ) {x y : ReadAnswer} → (x ≡ taken b → y ≡ by_room b space) → cond right x (refusal n 0) ≡ taken b → cond right y (refusal n 0) ≡ by_room b space
     behind right n = comparing.behind taken refusal output_length 19 same_parts not_taken right n 0 b space
@@ -63,20 +64,20 @@ other_room m p line room space b e = of-framed (framed m p line) e
 
 -- ---- the calls
 
-module _ (m : Method) (p : Parity) (s : Shape) (e : EndSign) (head body line out : List ℕ) where
+module _ (table : CodeTable) (m : Method) (p : Parity) (s : Shape) (e : EndSign) (head body line out : List ℕ) where
   abbrev rule : writing.WriteAnswer
-  rule = writing.write_block m p s e head body (length line)
+  rule = writing.write_block table m p s e head body (length line)
 
   abbrev back : ReadAnswer
-  back = block_back s e head body (length out)
+  back = block_back table s e head body (length out)
 
   -- what write_block ensures
   abbrev Writes : Result ℕ WriteRefusal → List ℕ → Type 0
-  Writes w line₁ = called (of_written w) line₁ ≡ write_call m p s e head body line
+  Writes w line₁ = called (of_written w) line₁ ≡ after_writing rule line
 
   -- what the function ensures
   abbrev Returns : Result Bool (RoundTripError WriteRefusal ReadRefusal) → List ℕ → List ℕ → Type 0
-  Returns r line₁ out₁ = returned (of_block_return r) line₁ out₁ ≡ block_returns m p s e head body line out
+  Returns r line₁ out₁ = returned (of_block_return r) line₁ out₁ ≡ block_returns table m p s e head body line out
 
   -- the first n bytes are the line
   pub record WrittenLine (n : ℕ) (line₁ : List ℕ) : Type 0 where
@@ -102,7 +103,7 @@ module _ (m : Method) (p : Parity) (s : Shape) (e : EndSign) (head body line out
 
   -- what read_block ensures of these bytes
   abbrev Reads : List ℕ → Result Block ReadRefusal → List ℕ → Type 0
-  Reads l r out₁ = called (of_read r) out₁ ≡ read_call m p l out
+  Reads l r out₁ = called (of_read r) out₁ ≡ after_reading (read_block table m p l (length out)) out
 
   pub record TakenBack (b : Block) (out₁ : List ℕ) : Type 0 where
     pub fits : leb (length head + length body) (length out) ≡ true
@@ -111,20 +112,20 @@ module _ (m : Method) (p : Parity) (s : Shape) (e : EndSign) (head body line out
 
   module _ {n : ℕ} {line₁ : List ℕ} (w : WrittenLine n line₁) (r : Result Block ReadRefusal) {out₁ : List ℕ} (h : Reads (take n line₁) r out₁) where
     abbrev answered : Bool → ReadAnswer
-    answered fits = cond fits (taken (parts_written s e head body)) (refusal 19 (length head + length body))
+    answered fits = cond fits (taken (parts_written table s e head body)) (refusal 19 (length head + length body))
 
-    read_back : read_block m p (take n line₁) (length out) ≡ back
+    read_back : read_block table m p (take n line₁) (length out) ≡ back
     read_back =
-        ap (λ l. read_block m p l (length out)) w.part
-        ∙ other_room m p w.bytes (length head + length body) (length out) (parts_written s e head body)
-        (second_property.written_reads_back m p s e head body w.bytes (length line) (length head + length body) w.by_rule (omega arith))
+        ap (λ l. read_block table m p l (length out)) w.part
+        ∙ other_room table m p w.bytes (length head + length body) (length out) (parts_written table s e head body)
+        (second_property.written_reads_back table m p s e head body w.bytes (length line) (length head + length body) w.by_rule (omega arith))
 
     back_is : called (of_read r) out₁ ≡ after_reading back out
     back_is = h ∙ ap (λ z. after_reading z out) read_back
 
     -- where the line was written, of the answer that reading it back gives
     of_written_lem : {answer : Returned} → answer ≡ block_answer (writing.written w.bytes) back → line₁ ≡ writing.write_output rule line
-        → returned answer line₁ out₁ ≡ block_returns m p s e head body line out
+        → returned answer line₁ out₁ ≡ block_returns table m p s e head body line out
     of_written_lem a l =
         joined (a ∙ ap (λ z. block_answer z back) (sym w.by_rule)) l
         (ap (λ c. c.output) back_is ∙ ap (λ z. block_output z back out) (sym w.by_rule))

@@ -9,11 +9,11 @@ use lib.Dec.{eqb, ltb}
 use lib.ListN.{get_or}
 use borrow.Author.Count.{below_more}
 use borrow.Author.Tests.{ltb-true, eqb-false, ne_eqb, not-true}
-use Rattle.block.specs.Signs.{SOH, STX, ETX, DLE, SYN, ETB, US, soh, stx, etx, dle, syn, etb, us, other, sign_of}
+use Rattle.block.specs.Signs.{CodeTable, koi7, soh, stx, etx, dle, syn, etb, us, other, sign_of}
 use Rattle.block.specs.Characters.{character}
 use Rattle.block.specs.Write.{is_other, is_free}
 use Rattle.block.specs.Scan.{first_failing, AllPass}
-use Rattle.block.proofs.NoSign.{NoSign, no_sign, above_none}
+use Rattle.block.proofs.NoSign.{NoSign, no_sign, above_koi7}
 use Rattle.std.proofs.lemmas.Bool.{and_parts}
 use Rattle.block.proofs.Scans.{scan_same}
 use Rattle.block.proofs.SignTests.{dle_test}
@@ -35,51 +35,56 @@ each_off false false false false false false false = refl
 off : (b sign : ℕ) → 0 < bit_xor b sign → b ≡ sign → ⊥
 off b sign h e = omega (arith, ap (λ x. bit_xor x sign) e ∙ xor_self sign)
 
-off_none : (b : ℕ) → OffSigns b → NoSign b
+off_none : (b : ℕ) → OffSigns b → NoSign koi7 b
 off_none b h =
-    (((((((tt, off b SOH h.soh), off b STX h.stx), off b DLE h.dle), off b SYN h.syn), off b ETX h.etx), off b ETB h.etb), off b US h.us)
+    (((((((tt, off b koi7.SOH h.soh), off b koi7.STX h.stx), off b koi7.DLE h.dle), off b koi7.SYN h.syn), off b koi7.ETX h.etx), off b koi7.ETB h.etb), off b koi7.US h.us)
 
 positive : (n : ℕ) → (n ≡ 0 → ⊥) → 0 < n
 positive zero h = absurd (h refl)
 positive (suc n) h = omega arith
 
-module _ (seven low : Bool) (b : ℕ) {c : ℕ} (char : c ≡ character seven b) where
-  pub plain_byte : not (eqb c SOH) && not (eqb c STX) && not (eqb c ETX) && not (eqb c DLE) && (not (eqb c SYN) && not (eqb c ETB) && not (eqb c US)) && (not low || ltb b 0x80)
-      ≡ is_plain_byte seven low b
-  unfolding is_plain_byte sign_of
-  plain_byte =
-      ap (λ t. t && (not low || ltb b 0x80)) (each_off (eqb c SOH) (eqb c STX) (eqb c ETX) (eqb c DLE) (eqb c SYN) (eqb c ETB) (eqb c US))
-      ∙ ap (λ x. is_other (sign_of x) && (not low || ltb b 0x80)) char
+pub no_sign_byte : (c : ℕ)
+    → not (eqb c 0x01) && not (eqb c 0x02) && not (eqb c 0x03) && not (eqb c 0x10) && (not (eqb c 0x16) && not (eqb c 0x17) && not (eqb c 0x1F))
+    ≡ is_other (sign_of koi7 c)
+unfolding sign_of
+no_sign_byte c = each_off (eqb c 0x01) (eqb c 0x02) (eqb c 0x03) (eqb c 0x10) (eqb c 0x16) (eqb c 0x17) (eqb c 0x1F)
 
+-- a byte whose character is c, or has a place with the sign of c
+pub plain_byte : (t : CodeTable) (seven low : Bool) (b : ℕ) {c : ℕ} {free : Bool} → free ≡ is_other (sign_of t c) → c ≡ character seven b
+    → free && (not low || ltb b 0x80) ≡ is_plain_byte t seven low b
+unfolding is_plain_byte
+plain_byte t seven low b f char = ap (λ x. x && (not low || ltb b 0x80)) (f ∙ ap (λ x. is_other (sign_of t x)) char)
+
+module _ (seven low : Bool) (b : ℕ) {c : ℕ} (char : c ≡ character seven b) where
   -- what is above the greatest sign is none
-  pub above_plain : (ltb US c && (not low || ltb b 0x80)) ≡ true → is_plain_byte seven low b ≡ true
+  pub above_plain : (ltb 0x1F c && (not low || ltb b 0x80)) ≡ true → is_plain_byte koi7 seven low b ≡ true
   unfolding is_plain_byte
   above_plain e =
-      let p = and_parts (ltb US c) (not low || ltb b 0x80) e in
-      rw (← char, no_sign c (above_none c (ltb-true US c p.0)), p.1)
+      let p = and_parts (ltb 0x1F c) (not low || ltb b 0x80) e in
+      rw (← char, above_koi7 c (ltb-true 0x1F c p.0), p.1)
 
   -- what differs from every sign is none
-  off_plain : OffSigns c → (not low || ltb b 0x80) ≡ true → is_plain_byte seven low b ≡ true
+  off_plain : OffSigns c → (not low || ltb b 0x80) ≡ true → is_plain_byte koi7 seven low b ≡ true
   unfolding is_plain_byte
-  off_plain h e = rw (← char, no_sign c (off_none c h), e)
+  off_plain h e = rw (← char, no_sign koi7 c (off_none c h), e)
 
   -- one byte more, where all were below 80 and the least was not 0
   pub least_plain : (below : Bool) (least : ℕ) {next far : ℕ} → (0 < far → OffSigns c) → next ≡ min least far
-      → ((below && (not low || ltb b 0x80)) && not (eqb next 0)) ≡ true → ((below && not (eqb least 0)) ≡ true) × (is_plain_byte seven low b ≡ true)
+      → ((below && (not low || ltb b 0x80)) && not (eqb next 0)) ≡ true → ((below && not (eqb least 0)) ≡ true) × (is_plain_byte koi7 seven low b ≡ true)
   least_plain below least {next} {far} each h e =
       let p = and_parts (below && (not low || ltb b 0x80)) (not (eqb next 0)) e in
       let q = and_parts below (not low || ltb b 0x80) p.0 in
       let n : next ≡ 0 → ⊥ = eqb-false next 0 (not-true (eqb next 0) p.1) in
       (rw (q.0, ne_eqb least 0 (λ z. n (omega (arith, h)))), off_plain (each (positive far (λ z. n (omega (arith, h))))) q.1)
 
-pub clear_byte : (seven : Bool) (b : ℕ) {c : ℕ} → c ≡ character seven b → not (eqb c DLE) ≡ is_clear_byte seven b
+pub clear_byte : (t : CodeTable) (seven : Bool) (b : ℕ) {c : ℕ} → c ≡ character seven b → not (eqb c t.DLE) ≡ is_clear_byte t seven b
 unfolding is_clear_byte
-clear_byte seven b char = ap (λ x. not (eqb x DLE)) char ∙ ap not (dle_test (character seven b))
+clear_byte t seven b char = ap (λ x. not (eqb x t.DLE)) char ∙ ap not (dle_test t (character seven b))
 
 -- the test of a part to be written is the rule's
-pub plain_free : (seven : Bool) (at : ℕ) (part : List ℕ) → first_failing (is_plain_byte false seven) at part ≡ first_failing (is_free seven) at part
+pub plain_free : (t : CodeTable) (seven : Bool) (at : ℕ) (part : List ℕ) → first_failing (is_plain_byte t false seven) at part ≡ first_failing (is_free t seven) at part
 unfolding is_plain_byte is_free character
-plain_free seven at part = scan_same (λ b. refl) at part
+plain_free t seven at part = scan_same (λ b. refl) at part
 
 -- a field without data
 pub no_run : {test : ℕ → Bool} (l : List ℕ) → ((b : ℕ) → test b ≡ false) → first_failing test 0 l ≡ 0

@@ -3,6 +3,7 @@
 #![tactic(auto)]
 
 mod clear;
+mod dkoi;
 mod field;
 mod off;
 mod plain;

@@ -1,5 +1,7 @@
-// How far a byte is off the signs.
-ghost use Rattle.std.specs.Prelude.{◌<◌};
+// How far a byte is off the signs of KOI-7.
+ghost use Rattle.std.specs.Prelude.{◌≡◌, ◌<◌};
+ghost use Rattle.block.specs.Signs.{koi7, sign_of};
+ghost use Rattle.block.specs.Write.{is_other};
 ghost use Rattle.block_scan.specs.Tests.{OffSigns};
 
 use block::{DLE, ETB, ETX, SOH, STX, SYN, US};
@@ -11,4 +13,13 @@ pub(crate) fn off_signs(c: u8) -> u8
     let low = (c ^ SOH).min(c ^ STX).min(c ^ ETX).min(c ^ DLE);
     let high = (c ^ SYN).min(c ^ ETB).min(c ^ US);
     low.min(high)
+}
+
+// Whether a character is none of them.
+pub(crate) fn is_no_sign(c: u8) -> bool
+    ensures { result ≡ is_other (sign_of koi7 c) }
+{
+    let first = (c != SOH) & (c != STX) & (c != ETX) & (c != DLE);
+    let last = (c != SYN) & (c != ETB) & (c != US);
+    first & last
 }

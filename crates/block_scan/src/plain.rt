@@ -1,13 +1,15 @@
 // Runs of header and plain text.
 ghost use Rattle.std.specs.Prelude.{◌≡◌, true};
+ghost use Rattle.block.specs.Signs.{koi7, table_of};
 ghost use Rattle.block.specs.Scan.{first_failing, AllPass};
 ghost use Rattle.block_scan.specs.Tests.{is_plain_byte};
 
-use crate::off::off_signs;
-use block::{DLE, ETB, ETX, GREATEST_SIGN, SOH, STX, SYN, US, character};
+use crate::dkoi::dkoi_run;
+use crate::off::{is_no_sign, off_signs};
+use block::{Code, US, character};
 use runs::{ByteTest, run};
 
-// In header and plain text data is what is no sign; where `low`, only below 80.
+// In header and plain text of KOI-7 data is what is no sign; where `low`, only below 80.
 #[derive(Clone, Copy)]
 struct PlainByte {
     seven: bool,
@@ -15,20 +17,21 @@ struct PlainByte {
 }
 
 impl PlainByte {
-    // Whether the 16 characters are above every sign, as those of a text mostly are. The compiler compares all 16 at once.
+    // Whether the 16 characters are above every sign, of which US is the greatest, as those of a text mostly are. The compiler compares
+    // all 16 at once.
     fn all_above(self, sixteen: &[u8; 16]) -> bool
-        ensures { result ≡ true → AllPass (is_plain_byte self.seven self.low) sixteen.now 0 16 }
+        ensures { result ≡ true → AllPass (is_plain_byte koi7 self.seven self.low) sixteen.now 0 16 }
     {
         let mut all = true;
         for b in sixteen {
-            all = all & ((character(self.seven, *b) > GREATEST_SIGN) & (!self.low | (*b < 0x80)));
+            all = all & ((character(self.seven, *b) > US) & (!self.low | (*b < 0x80)));
         }
         all
     }
 
     // Whether the 16 bytes are data of header or plain text: `least` is 0 where one is a sign. The compiler takes all 16 at once.
     fn all_plain(self, sixteen: &[u8; 16]) -> bool
-        ensures { result ≡ true → AllPass (is_plain_byte self.seven self.low) sixteen.now 0 16 }
+        ensures { result ≡ true → AllPass (is_plain_byte koi7 self.seven self.low) sixteen.now 0 16 }
     {
         let mut least: u8 = 255;
         let mut below = true;
@@ -41,13 +44,10 @@ impl PlainByte {
 }
 
 impl ByteTest for PlainByte {
-    ghost passing = { λ test. is_plain_byte test.seven test.low };
+    ghost passing = { λ test. is_plain_byte koi7 test.seven test.low };
 
     fn passes(self, b: u8) -> bool {
-        let c = character(self.seven, b);
-        let first = (c != SOH) & (c != STX) & (c != ETX) & (c != DLE);
-        let last = (c != SYN) & (c != ETB) & (c != US);
-        first & last & (!self.low | (b < 0x80))
+        is_no_sign(character(self.seven, b)) & (!self.low | (b < 0x80))
     }
 
     // The cheaper test first.
@@ -56,9 +56,12 @@ impl ByteTest for PlainByte {
     }
 }
 
-// How many bytes of header or plain text a part begins with.
-pub fn plain_run(seven: bool, low: bool, part: &[u8]) -> usize
-    ensures { result ≡ first_failing (is_plain_byte seven low) 0 part.now }
+// How many bytes of header or plain text a part begins with. In KOI-7, which most links have, 16 bytes are compared at once.
+pub fn plain_run(code: Code, seven: bool, low: bool, part: &[u8]) -> usize
+    ensures { result ≡ first_failing (is_plain_byte (table_of code) seven low) 0 part.now }
 {
-    run(PlainByte { seven, low }, part)
+    match code {
+        Code::Koi7 => run(PlainByte { seven, low }, part),
+        Code::Dkoi => dkoi_run(seven, low, part),
+    }
 }

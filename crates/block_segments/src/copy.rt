@@ -1,13 +1,14 @@
 // The characters of a segment copied to the start of an output. What does not fit there is left out.
 ghost use Rattle.std.specs.Prelude.{◌≡◌, false, [], ◌∷◌, ◌++◌, map, ◌+◌, ◌<◌};
 ghost use Rattle.std.proofs.lemmas.List.Edits.{sets};
+ghost use Rattle.block.specs.Signs.{table_of};
 ghost use Rattle.block.specs.Characters as rule;
 ghost use Rattle.block_framing.specs.Framings.{kept_bytes};
 ghost use Rattle.block_segments.specs.Segment.{kept_in, Copied};
 
 use crate::Segment;
 use crate::kept::Keeping;
-use block::character;
+use block::{Code, character};
 
 // Stores b at n where the output has that place, and answers the next place, whether it has or not (`store_one` of block_store stays
 // at the end).
@@ -22,11 +23,11 @@ fn put(out: &mut [u8], n: usize, b: u8) -> usize
 }
 
 // The characters of the kept bytes of a segment, judged byte by byte; answers how many they are.
-pub fn copy_kept(seven: bool, clear: bool, part: &[u8], out: &mut [u8]) -> usize
-    ensures { Copied seven (kept_bytes clear seven false part.now) out.old result out.new }
+pub fn copy_kept(code: Code, seven: bool, clear: bool, part: &[u8], out: &mut [u8]) -> usize
+    ensures { Copied seven (kept_bytes (table_of code) clear seven false part.now) out.old result out.new }
 {
     let mut n = 0;
-    let mut keeping = Keeping::new(clear, seven);
+    let mut keeping = Keeping::new(code, clear, seven);
     for b in part {
         if keeping.keeps(*b) {
             n = put(&mut *out, n, character(seven, *b));
@@ -54,7 +55,7 @@ fn copy_segment(seven: bool, segment: &Segment<'_>, out: &mut [u8]) -> usize
         copy_whole(seven, segment.bytes, &mut *out);
         return segment.kept;
     }
-    copy_kept(seven, segment.clear, segment.bytes, &mut *out)
+    copy_kept(segment.code, seven, segment.clear, segment.bytes, &mut *out)
 }
 
 // The characters of a header and, behind them, those of a text.

@@ -2,9 +2,12 @@
 // block_framing) is summed, or copied to an output. Each function takes every input.
 #![tactic(auto)]
 
-// A segment: its bytes, how many of them it is said to keep, and whether it is clear text.
+use block::Code;
+
+// A segment: its code, its bytes, how many of them it is said to keep, and whether it is clear text.
 #[derive(Clone, Copy)]
 pub struct Segment<'a> {
+    pub code: Code,
     pub bytes: &'a [u8],
     pub kept: usize,
     pub clear: bool,

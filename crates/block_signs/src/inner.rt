@@ -1,12 +1,13 @@
-// The signs between header and text.
+// The signs between header and text, which are the same in both codes.
 ghost use Rattle.std.specs.Prelude.{◌≡◌};
+ghost use Rattle.block.specs.Signs.{table_of};
 ghost use Rattle.block.specs.Write.{inner_signs};
 
 use crate::few::FewBytes;
-use block::{DLE, STX, Shape};
+use block::{Code, DLE, STX, Shape};
 
 pub fn inner_signs(shape: Shape) -> FewBytes
-    ensures { result ≡ inner_signs shape }
+    ensures { (code : Code) → result ≡ inner_signs (table_of code) shape }
 {
     match shape {
         Shape::Header => FewBytes::none(),

@@ -3,10 +3,11 @@
 #![tactic(auto)]
 
 ghost use Rattle.std.specs.Prelude.{◌≡◌};
+ghost use Rattle.block.specs.Signs.{table_of};
 ghost use Rattle.block.specs.Write.{start_signs};
 ghost use Rattle.block_signs.specs.Signs.{end_signs};
 
-use block::{DLE, EndSign, SOH, STX, Shape};
+use block::{Code, DLE, EndSign, SOH, STX, Shape, end_byte};
 
 mod few;
 mod inner;
@@ -14,9 +15,9 @@ mod inner;
 pub use few::FewBytes;
 pub use inner::inner_signs;
 
-// SOH where there is a header, else the signs before the text.
+// SOH where there is a header, else the signs before the text. They are the same in both codes.
 pub fn start_signs(shape: Shape) -> FewBytes
-    ensures { result ≡ start_signs shape }
+    ensures { (code : Code) → result ≡ start_signs (table_of code) shape }
 {
     match shape {
         Shape::Header => FewBytes::one(SOH),
@@ -28,10 +29,10 @@ pub fn start_signs(shape: Shape) -> FewBytes
 }
 
 // The end sign, which has a DLE before it in clear text.
-pub fn end_signs(clear: bool, end: EndSign) -> FewBytes
-    ensures { result ≡ end_signs clear end }
+pub fn end_signs(code: Code, clear: bool, end: EndSign) -> FewBytes
+    ensures { result ≡ end_signs (table_of code) clear end }
 {
-    let sign = u8::from(end);
+    let sign = end_byte(code, end);
     if clear {
         FewBytes::two([DLE, sign])
     } else {

@@ -12,7 +12,7 @@ use borrow.Rule.Slice.PartMut.{put_mid}
 use lib.Seq.{drop-cons, drop-drop, set_out, sets, sets-eq, length-sets}
 use Rattle.std.proofs.lemmas.List.{take_more_set}
 use Rattle.std.proofs.lemmas.Grind.{take_at_read}
-use Rattle.block.specs.Signs.{DLE}
+use Rattle.block.specs.Signs.{CodeTable}
 use Rattle.block.specs.Write.{doubled, escaped}
 use Rattle.block.proofs.Lists.{map-append, sets_append}
 use Rattle.block_store.specs.Store.{Stored}
@@ -99,18 +99,18 @@ doubled-append : (t : Bool) (b : ℕ) (bs : List ℕ) → doubled t b bs ≡ dou
 doubled-append true b bs = refl
 doubled-append false b bs = refl
 
-module _ (f : ℕ → ℕ) (part : List ℕ) (i : ℕ) where
+module _ (t : CodeTable) (f : ℕ → ℕ) (part : List ℕ) (i : ℕ) where
   pub escaped_on : i < length part
-      → map f (escaped (drop i part)) ≡ map f (doubled (eqb (get_or part i 0) DLE) (get_or part i 0) []) ++ map f (escaped (drop (i + 1) part))
+      → map f (escaped t (drop i part)) ≡ map f (doubled (eqb (get_or part i 0) t.DLE) (get_or part i 0) []) ++ map f (escaped t (drop (i + 1) part))
   unfolding escaped
   escaped_on h =
       let b = get_or part i 0 in
-      ap (λ l. map f (escaped l)) (drop_on part i h) ∙ ap (map f) (doubled-append (eqb b DLE) b (escaped (drop (i + 1) part)))
-      ∙ map-append f (doubled (eqb b DLE) b []) (escaped (drop (i + 1) part))
+      ap (λ l. map f (escaped t l)) (drop_on part i h) ∙ ap (map f) (doubled-append (eqb b t.DLE) b (escaped t (drop (i + 1) part)))
+      ∙ map-append f (doubled (eqb b t.DLE) b []) (escaped t (drop (i + 1) part))
 
-  pub escaped_out : length part ≤ i → map f (escaped (drop i part)) ≡ []
+  pub escaped_out : length part ≤ i → map f (escaped t (drop i part)) ≡ []
   unfolding escaped
-  escaped_out h = ap (λ l. map f (escaped l)) (drop_of_length-le part h)
+  escaped_out h = ap (λ l. map f (escaped t l)) (drop_of_length-le part h)
 
 -- ---- bytes changed in place
 

@@ -5,12 +5,12 @@
 #![tactic(auto)]
 
 ghost use Rattle.std.specs.Prelude.{◌≡◌, [], ◌∷◌, map, eqb};
-ghost use Rattle.block.specs.Signs as signs;
+ghost use Rattle.block.specs.Signs.{table_of};
 ghost use Rattle.block.specs.Characters as characters;
 ghost use Rattle.block.specs.Write as rule;
 ghost use Rattle.block_store.specs.Store.{Stored};
 
-use block::{DLE, Parity};
+use block::{Code, DLE, Parity};
 use block_parity::with_parity;
 
 // The byte by which a character is sent.
@@ -76,9 +76,9 @@ fn store_one(b: u8, out: &mut [u8], at: usize) -> usize
     at
 }
 
-// One byte of clear text, DLE twice.
+// One byte of clear text, DLE twice. It is the same in both codes.
 fn store_escaped(seven: bool, parity: Parity, b: u8, out: &mut [u8], at: usize) -> usize
-    ensures { Stored out.old at (map (characters.sent seven parity) (rule.doubled (eqb b signs.DLE) b [])) out.new result }
+    ensures { (code : Code) → Stored out.old at (map (characters.sent seven parity) (rule.doubled (eqb b (table_of code).DLE) b [])) out.new result }
 {
     let byte = sent(seven, parity, b);
     let next = store_one(byte, &mut *out, at);
@@ -90,7 +90,7 @@ fn store_escaped(seven: bool, parity: Parity, b: u8, out: &mut [u8], at: usize) 
 
 // Clear text, each DLE twice.
 pub fn store_clear(seven: bool, parity: Parity, part: &[u8], out: &mut [u8], at: usize) -> usize
-    ensures { Stored out.old at (map (characters.sent seven parity) (rule.escaped part.now)) out.new result }
+    ensures { (code : Code) → Stored out.old at (map (characters.sent seven parity) (rule.escaped (table_of code) part.now)) out.new result }
 {
     let mut next = at;
     for b in part {

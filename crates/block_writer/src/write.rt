@@ -1,4 +1,4 @@
-// Writing a block: questions 1, 4, 2, 3, 5, 6, then the line.
+// Writing a block: questions 58, 1, 4, 2, 3, 5, 6, then the line.
 ghost use Rattle.std.specs.Prelude.{◌≡◌, length};
 ghost use Rattle.bits.specs.Calls.{called};
 ghost use Rattle.block.specs.Lent.{line_of_parts, write_parts};
@@ -6,7 +6,7 @@ ghost use Rattle.block.specs.Answers.{of_written, after_writing};
 ghost use Rattle.block_writer.specs.Writing.{ask_room};
 
 use crate::ShortParts;
-use block::{Link, Parts, WriteRefusal, is_seven};
+use block::{Link, Parts, WriteRefusal, carries, is_seven};
 use block_line::put_line;
 use block_parts::ask_parts;
 
@@ -28,7 +28,10 @@ impl ShortParts<'_> {
 pub fn write_block(link: Link, parts: &Parts<'_>, out: &mut [u8]) -> Result<usize, WriteRefusal>
     ensures { called (of_written result) out.new ≡ write_parts link parts.now out.old }
 {
-    ask_parts(is_seven(link.method), parts)?;
+    if !carries(link.code, link.method) {
+        return Err(WriteRefusal::CodeNotCarried);
+    }
+    ask_parts(link.code, is_seven(link.method), parts)?;
     let short = ShortParts { parts };
     short.write_line(link, &mut *out)
 }

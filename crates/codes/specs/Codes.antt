@@ -1,5 +1,5 @@
--- The codes of the C calls: document 01's numbers of methods and shapes, 0 and 1 for parity, the bytes of the end signs.
--- Assumes nothing.
+-- The numbers that C passes: document 01's numbers of methods and shapes, 0 and 1 for parity, 0 and 1 for KOI-7 and DKOI, and the end
+-- signs by their bytes in KOI-7. Assumes nothing.
 use Rattle.std.specs.Prelude.{ℕ, cond, eqb, Option, Some, None}
 use Rattle.block.specs.declared.Method.{Method}
 use Rattle.block.specs.declared.Method.TheVariants as method
@@ -10,7 +10,9 @@ use Rattle.block.specs.declared.Shape.{Shape}
 use Rattle.block.specs.declared.Shape.TheVariants as shape
 use Rattle.block.specs.declared.EndSign.{EndSign}
 use Rattle.block.specs.declared.EndSign.TheVariants as end
-use Rattle.block.specs.Signs.{ETX, ETB, US}
+use Rattle.block.specs.declared.Code.{Code}
+use Rattle.block.specs.declared.Code.TheVariants as characters
+use Rattle.block.specs.Signs.{koi7}
 use Rattle.frame.specs.declared.FrameMethod.{FrameMethod}
 use Rattle.frame.specs.declared.FrameMethod.TheVariants as frame
 use Rattle.codes.specs.declared.Format.{Format}
@@ -35,16 +37,20 @@ shape_of code =
     (cond (eqb code 5) (Some shape.HeaderClearText) None))))
 
 abbrev pub end_of : ℕ → Option EndSign
-end_of code = cond (eqb code ETX) (Some end.Etx) (cond (eqb code ETB) (Some end.Etb) (cond (eqb code US) (Some end.Us) None))
+end_of code = cond (eqb code koi7.ETX) (Some end.Etx) (cond (eqb code koi7.ETB) (Some end.Etb) (cond (eqb code koi7.US) (Some end.Us) None))
 
--- method and parity, where both are known
-abbrev pub link_by : Option Method → Option Parity → Option Link
-link_by None p = None
-link_by (Some m) None = None
-link_by (Some m) (Some p) = Some (record { method = m; parity = p })
+abbrev pub characters_of : ℕ → Option Code
+characters_of code = cond (eqb code 0) (Some characters.Koi7) (cond (eqb code 1) (Some characters.Dkoi) None)
 
-abbrev pub link_of : ℕ → ℕ → Option Link
-link_of m p = link_by (method_of m) (parity_of p)
+-- method, parity and the code of the characters, where all are known
+abbrev pub link_by : Option Method → Option Parity → Option Code → Option Link
+link_by None p c = None
+link_by (Some m) None c = None
+link_by (Some m) (Some p) None = None
+link_by (Some m) (Some p) (Some c) = Some (record { method = m; parity = p; code = c })
+
+abbrev pub link_of : ℕ → ℕ → ℕ → Option Link
+link_of m p c = link_by (method_of m) (parity_of p) (characters_of c)
 
 -- shape and end sign, where both are known
 abbrev pub format_by : Option Shape → Option EndSign → Option Format

@@ -1,12 +1,13 @@
-// The codes of the C calls, as methods, parities, shapes and end signs: document 01's numbers of methods and shapes, 0 and 1 for
-// parity, the bytes of the end signs. Every number is taken: one outside its list is none of them. They stand here together, as the
-// list of what C may pass, and not as a `TryFrom` beside each type in `block` and `frame`.
+// The numbers that C passes for a method, a parity, a code, a shape and an end sign: document 01's numbers of methods and shapes, 0 and
+// 1 for parity, 0 and 1 for KOI-7 and DKOI, and the end signs by their bytes in KOI-7. Every number is taken: one outside its list is
+// none of them. They stand here together, as the list of what C may pass, and not as a `TryFrom` beside each type in `block` and
+// `frame`.
 #![tactic(auto)]
 
 ghost use Rattle.std.specs.Prelude.{◌≡◌};
-ghost use Rattle.codes.specs.Codes.{method_of, parity_of, shape_of, end_of, link_of, format_of, frame_method_of};
+ghost use Rattle.codes.specs.Codes.{method_of, parity_of, characters_of, shape_of, end_of, link_of, format_of, frame_method_of};
 
-use block::{ETB, ETX, EndSign, Link, Method, Parity, Shape, US};
+use block::{Code, ETB, ETX, EndSign, Link, Method, Parity, Shape, US};
 use frame::FrameMethod;
 
 // What a block to be written has.
@@ -39,6 +40,16 @@ fn parity_of(code: u8) -> Option<Parity>
     }
 }
 
+fn characters_of(code: u8) -> Option<Code>
+    ensures { result ≡ characters_of code }
+{
+    match code {
+        0 => Some(Code::Koi7),
+        1 => Some(Code::Dkoi),
+        _ => None,
+    }
+}
+
 fn shape_of(code: u8) -> Option<Shape>
     ensures { result ≡ shape_of code }
 {
@@ -63,13 +74,18 @@ fn end_of(code: u8) -> Option<EndSign>
     }
 }
 
-// Two codes that are both known: this and the one below are as plain as one function over both kinds.
-pub fn link_of(method: u8, parity: u8) -> Option<Link>
-    ensures { result ≡ link_of method parity }
+// Codes that are all known: this and the one below are as plain as one function over both kinds.
+pub fn link_of(method: u8, parity: u8, characters: u8) -> Option<Link>
+    ensures { result ≡ link_of method parity characters }
 {
     let method = method_of(method)?;
     let parity = parity_of(parity)?;
-    Some(Link { method, parity })
+    let code = characters_of(characters)?;
+    Some(Link {
+        method,
+        parity,
+        code,
+    })
 }
 
 pub fn format_of(shape: u8, end_sign: u8) -> Option<Format>

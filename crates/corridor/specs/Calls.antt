@@ -39,11 +39,11 @@ after_reading_block c = called (read_numbers c.answer).number (read_numbers c.an
 
 abbrev pub read_block_by : Option Link → List ℕ → List ℕ → Call
 read_block_by None line out = unknown_code 5 out
-read_block_by (Some l) line out = after_reading_block (block.read_call l.method l.parity line out)
+read_block_by (Some l) line out = after_reading_block (block.read_call l.code l.method l.parity line out)
 
--- of `method`, `parity`, the line and the output
-abbrev pub read_block_call : ℕ → ℕ → List ℕ → List ℕ → Call
-read_block_call m p line out = read_block_by (link_of m p) line out
+-- of `method`, `parity`, `code`, the line and the output
+abbrev pub read_block_call : ℕ → ℕ → ℕ → List ℕ → List ℕ → Call
+read_block_call m p c line out = read_block_by (link_of m p c) line out
 
 abbrev pub after_writing_block : rule.Call block.Numbers → Call
 after_writing_block c = value_call (written_numbers c.answer) c.output
@@ -51,11 +51,11 @@ after_writing_block c = value_call (written_numbers c.answer) c.output
 abbrev pub write_block_by : Option Link → Option Format → List ℕ → List ℕ → List ℕ → Call
 write_block_by None f header text out = unknown_code 1 out
 write_block_by (Some l) None header text out = unknown_code 1 out
-write_block_by (Some l) (Some f) header text out = after_writing_block (block.write_call l.method l.parity f.shape f.end header text out)
+write_block_by (Some l) (Some f) header text out = after_writing_block (block.write_call l.code l.method l.parity f.shape f.end header text out)
 
--- of `method`, `parity`, `shape`, `end_sign`, header, text and the output
-abbrev pub write_block_call : ℕ → ℕ → ℕ → ℕ → List ℕ → List ℕ → List ℕ → Call
-write_block_call m p s e header text out = write_block_by (link_of m p) (format_of s e) header text out
+-- of `method`, `parity`, `code`, `shape`, `end_sign`, header, text and the output
+abbrev pub write_block_call : ℕ → ℕ → ℕ → ℕ → ℕ → List ℕ → List ℕ → List ℕ → Call
+write_block_call m p c s e header text out = write_block_by (link_of m p c) (format_of s e) header text out
 
 -- ---- frames
 

@@ -14,14 +14,15 @@ use codes::{format_of, link_of};
 pub fn corridor_read_block(
     method: u8,
     parity: u8,
+    code: u8,
     line: &[u8],
     out: &mut [u8],
     answer: &mut [usize; 5],
 ) -> u32
-    ensures { called result answer.new out.new ≡ read_block_call method parity line.now out.old }
+    ensures { called result answer.new out.new ≡ read_block_call method parity code line.now out.old }
 {
     *answer = [0; 5];
-    let Some(link) = link_of(method, parity) else {
+    let Some(link) = link_of(method, parity, code) else {
         return UNKNOWN_CODE;
     };
     let read = block_read(read_block(link, line, &mut *out));
@@ -34,6 +35,7 @@ pub fn corridor_read_block(
 pub fn corridor_write_block(
     method: u8,
     parity: u8,
+    code: u8,
     shape: u8,
     end_sign: u8,
     header: &[u8],
@@ -41,10 +43,10 @@ pub fn corridor_write_block(
     out: &mut [u8],
     value: &mut usize,
 ) -> u32
-    ensures { called result (value.new ∷ []) out.new ≡ write_block_call method parity shape end_sign header.now text.now out.old }
+    ensures { called result (value.new ∷ []) out.new ≡ write_block_call method parity code shape end_sign header.now text.now out.old }
 {
     *value = 0;
-    let Some(link) = link_of(method, parity) else {
+    let Some(link) = link_of(method, parity, code) else {
         return UNKNOWN_CODE;
     };
     let Some(format) = format_of(shape, end_sign) else {

@@ -41,19 +41,21 @@ pub extern "C" fn corridor_check_6(content: &[u8]) -> u32
 pub extern "C" fn corridor_read_block(
     method: u8,
     parity: u8,
+    code: u8,
     line: &[u8],
     out: &mut [u8],
     answer: &mut [usize; 5],
 ) -> u32
-    ensures { called result answer.new out.new ≡ read_block_call method parity line.now out.old }
+    ensures { called result answer.new out.new ≡ read_block_call method parity code line.now out.old }
 {
-    corridor::corridor_read_block(method, parity, line, &mut *out, &mut *answer)
+    corridor::corridor_read_block(method, parity, code, line, &mut *out, &mut *answer)
 }
 
 #[unsafe(no_mangle)]
 pub extern "C" fn corridor_write_block(
     method: u8,
     parity: u8,
+    code: u8,
     shape: u8,
     end_sign: u8,
     header: &[u8],
@@ -61,11 +63,12 @@ pub extern "C" fn corridor_write_block(
     out: &mut [u8],
     value: &mut usize,
 ) -> u32
-    ensures { called result (value.new ∷ []) out.new ≡ write_block_call method parity shape end_sign header.now text.now out.old }
+    ensures { called result (value.new ∷ []) out.new ≡ write_block_call method parity code shape end_sign header.now text.now out.old }
 {
     corridor::corridor_write_block(
         method,
         parity,
+        code,
         shape,
         end_sign,
         header,

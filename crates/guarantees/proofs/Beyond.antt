@@ -10,6 +10,7 @@ use Rattle.cyclic.proofs.Methods.{width_5}
 use Rattle.block.specs.declared.Method.{Method}
 use Rattle.block.specs.declared.Method.TheVariants as method
 use Rattle.block.specs.declared.Parity.{Parity}
+use Rattle.block.specs.Signs.{CodeTable}
 use Rattle.block.specs.Check.{check_length}
 use Rattle.block.proofs.CheckLaws.{check_length_lem}
 use Rattle.block.specs.Read.{Parts}
@@ -30,11 +31,11 @@ distance_16 m h =
     let c = check_16 m h in
     at_least_four c.parameters 16 c.wide (lines_of m) (bridge m) c.pairs c.terms order16 (omega arith) c.order
 
-distance-blocks : (m : Method) (p : Parity) (most : ℕ) → check_length m ≡ 2 → 8 * (most + 2) < 32768 → AtLeastBelow 4 32768 (blocks m p)
-    → BlocksAtLeast 4 most m p
-distance-blocks m p most two fits least A B t b room e few =
-    let k = taken_passed m p A room e in
-    least A B t (omega (arith, checked-length m p A k.framing, ap (λ (b : Parts). b.counted) k.parts))
+distance-blocks : (table : CodeTable) (m : Method) (p : Parity) (most : ℕ) → check_length m ≡ 2 → 8 * (most + 2) < 32768 → AtLeastBelow 4 32768 (blocks table m p)
+    → BlocksAtLeast 4 most table m p
+distance-blocks table m p most two fits least A B t b room e few =
+    let k = taken_passed table m p A room e in
+    least A B t (omega (arith, checked-length table m p A k.framing, ap (λ (b : Parts). b.counted) k.parts))
 
 distance-frames : FramesAtLeast 4 4093 method5
 unfolding checked_bits
@@ -50,7 +51,7 @@ pub beyond_the_owner : BeyondTheOwner
 beyond_the_owner =
     record {
       distance_16 = distance_16;
-      distance_3 = λ p. distance-blocks method.Cyclic p _ (check_length_lem method.Cyclic) (omega arith) (distance_16 (method_3 p) tt);
-      distance_4 = λ p. distance-blocks method.CyclicAlternative p _ (check_length_lem method.CyclicAlternative) (omega arith) (distance_16 (method_4 p) tt);
+      distance_3 = λ t p. distance-blocks t method.Cyclic p _ (check_length_lem method.Cyclic) (omega arith) (distance_16 (method_3 t p) tt);
+      distance_4 = λ t p. distance-blocks t method.CyclicAlternative p _ (check_length_lem method.CyclicAlternative) (omega arith) (distance_16 (method_4 t p) tt);
       distance_5 = distance-frames;
     }

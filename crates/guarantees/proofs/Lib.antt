@@ -9,3 +9,4 @@ pub mod Second
 pub mod Beyond
 pub mod Rows
 pub mod Fill
+pub mod Codes

@@ -2,6 +2,7 @@
 use Prim.Native.Nat.{◌+◌, ◌-◌, ◌*◌}
 use native.Mathlib.Omega.{arith}
 use mathlib.Core.Path.{refl}
+use Rattle.block.specs.Signs.{CodeTable}
 use Rattle.division.specs.Laws.{EvenTerms, OrderIs, OrderAbove, order16}
 use Rattle.division.proofs.Generators.{ccitt16_even, ibm16_even, order_ccitt16, order_ibm16, order_ieee32}
 use Rattle.cyclic.specs.Check.{Parameters, method3, method4, method5, method6}
@@ -28,28 +29,28 @@ use Rattle.guarantees.proofs.Blocks.Parities.{distance-parity, distance_matrix, 
 use Rattle.guarantees.proofs.Blocks.Diagonals.{counted_diagonal, distance_diagonal, four_diagonal, six_diagonal}
 
 pub bridge : (m : AnyMethod) → Bridge (lines_of m)
-bridge (method_1 p) = block_bridge method.Parity p
-bridge (method_2 p) = block_bridge method.Matrix p
-bridge (method_3 p) = block_bridge method.Cyclic p
-bridge (method_4 p) = block_bridge method.CyclicAlternative p
+bridge (method_1 table p) = block_bridge table method.Parity p
+bridge (method_2 table p) = block_bridge table method.Matrix p
+bridge (method_3 table p) = block_bridge table method.Cyclic p
+bridge (method_4 table p) = block_bridge table method.CyclicAlternative p
 bridge method_5 = frame_bridge method5
 bridge method_6 = frame_bridge method6
-bridge (method_7 p) = block_bridge method.Diagonal p
+bridge (method_7 table p) = block_bridge table method.Diagonal p
 
-pub block_has_framing : (m : Method) (p : Parity) → AcceptedHasFraming (blocks m p)
-block_has_framing m p A acc = block-framing.has_framing m p A (block-framing.accepted_found m p A acc)
+pub block_has_framing : (table : CodeTable) (m : Method) (p : Parity) → AcceptedHasFraming (blocks table m p)
+block_has_framing table m p A acc = block-framing.has_framing table m p A (block-framing.accepted_found table m p A acc)
 
 pub frame_has_framing : (m : Parameters) → AcceptedHasFraming (frames m)
 frame_has_framing m A acc = frame-framing.has_framing m A (frame-framing.accepted_found m A acc)
 
 accepted_has_framing : (m : AnyMethod) → AcceptedHasFraming (lines_of m)
-accepted_has_framing (method_1 p) = block_has_framing method.Parity p
-accepted_has_framing (method_2 p) = block_has_framing method.Matrix p
-accepted_has_framing (method_3 p) = block_has_framing method.Cyclic p
-accepted_has_framing (method_4 p) = block_has_framing method.CyclicAlternative p
+accepted_has_framing (method_1 table p) = block_has_framing table method.Parity p
+accepted_has_framing (method_2 table p) = block_has_framing table method.Matrix p
+accepted_has_framing (method_3 table p) = block_has_framing table method.Cyclic p
+accepted_has_framing (method_4 table p) = block_has_framing table method.CyclicAlternative p
 accepted_has_framing method_5 = frame_has_framing method5
 accepted_has_framing method_6 = frame_has_framing method6
-accepted_has_framing (method_7 p) = block_has_framing method.Diagonal p
+accepted_has_framing (method_7 table p) = block_has_framing table method.Diagonal p
 
 -- what the lines of a 16-bit check rest on
 pub record Check16 (L : Lines) : Type 0 where
@@ -88,13 +89,13 @@ unfolding method6
 order_6 = order_ieee32
 
 pub check_16 : (m : AnyMethod) → Has16Bits m → Check16 (lines_of m)
-check_16 (method_1 p) h = absurd h
-check_16 (method_2 p) h = absurd h
-check_16 (method_3 p) h = record { parameters = method3; wide = width_3; pairs = cyclic_pairs_3 p; terms = terms_3; order = order_3 }
-check_16 (method_4 p) h = record { parameters = method4; wide = width_4; pairs = cyclic_pairs_4 p; terms = terms_4; order = order_4 }
+check_16 (method_1 table p) h = absurd h
+check_16 (method_2 table p) h = absurd h
+check_16 (method_3 table p) h = record { parameters = method3; wide = width_3; pairs = cyclic_pairs_3 table p; terms = terms_3; order = order_3 }
+check_16 (method_4 table p) h = record { parameters = method4; wide = width_4; pairs = cyclic_pairs_4 table p; terms = terms_4; order = order_4 }
 check_16 method_5 h = record { parameters = method5; wide = width_5; pairs = cyclic_frames method5 16 width_5; terms = terms_5; order = order_5 }
 check_16 method_6 h = absurd h
-check_16 (method_7 p) h = absurd h
+check_16 (method_7 table p) h = absurd h
 
 pub third_property : ThirdProperty
 third_property =
@@ -119,6 +120,6 @@ third_property =
       four_diagonal = four_diagonal;
       six_diagonal = six_diagonal;
       counted_diagonal = counted_diagonal;
-      any_parity_3 = any_parity method.Cyclic refl;
-      any_parity_4 = any_parity method.CyclicAlternative refl;
+      any_parity_3 = λ t. any_parity t method.Cyclic refl;
+      any_parity_4 = λ t. any_parity t method.CyclicAlternative refl;
     }

@@ -5,6 +5,7 @@ use Rattle.cyclic.specs.Check.{Parameters, method5}
 use Rattle.block.specs.declared.Method.{Method}
 use Rattle.block.specs.declared.Method.TheVariants as method
 use Rattle.block.specs.declared.Parity.{Parity}
+use Rattle.block.specs.Signs.{CodeTable}
 use Rattle.block.specs.Read.{Parts, taken, read_block}
 use Rattle.frame.specs.Read as frame-reading
 use Rattle.guarantees.specs.Lines.{Lines, TwoAccepted, distance}
@@ -17,10 +18,10 @@ abbrev pub AtLeastBelow : ℕ → ℕ → Lines → Type 0
 AtLeastBelow n size L = (A B : L.Line) → TwoAccepted L A B → length (L.checked_bits A) < size → n ≤ distance L A B
 
 -- blocks, by the counted number with which reading takes A
-abbrev pub BlocksAtLeast : ℕ → ℕ → Method → Parity → Type 0
-BlocksAtLeast n most m p =
-    (A B : List ℕ) → TwoAccepted (blocks m p) A B → (b : Parts) (room : ℕ) → read_block m p A room ≡ taken b → b.counted ≤ most
-    → n ≤ distance (blocks m p) A B
+abbrev pub BlocksAtLeast : ℕ → ℕ → CodeTable → Method → Parity → Type 0
+BlocksAtLeast n most t m p =
+    (A B : List ℕ) → TwoAccepted (blocks t m p) A B → (b : Parts) (room : ℕ) → read_block t m p A room ≡ taken b → b.counted ≤ most
+    → n ≤ distance (blocks t m p) A B
 
 -- frames, by the bytes of the content with which reading takes A
 abbrev pub FramesAtLeast : ℕ → ℕ → Parameters → Type 0
@@ -32,6 +33,6 @@ pub record BeyondTheOwner : Type 0 where
   -- fewer than 32,768 checked bits
   pub distance_16 : (m : AnyMethod) → Has16Bits m → AtLeastBelow 4 32768 (lines_of m)
   -- so up to 4,093 bytes, which are 32,760 checked bits
-  pub distance_3 : (p : Parity) → BlocksAtLeast 4 4093 method.Cyclic p
-  pub distance_4 : (p : Parity) → BlocksAtLeast 4 4093 method.CyclicAlternative p
+  pub distance_3 : (t : CodeTable) (p : Parity) → BlocksAtLeast 4 4093 t method.Cyclic p
+  pub distance_4 : (t : CodeTable) (p : Parity) → BlocksAtLeast 4 4093 t method.CyclicAlternative p
   pub distance_5 : FramesAtLeast 4 4093 method5

@@ -7,7 +7,7 @@ use Rattle.block.specs.declared.Field.{Field}
 use Rattle.block.specs.declared.Field.TheVariants.{Start, StartDle, Header, HeaderDle, Text, Clear, ClearDle}
 use Rattle.block.specs.declared.Judged.{Judged}
 use Rattle.block.specs.declared.Judged.TheVariants.{Is, Ends, NoStart, OutOfPlace, DleOutOfPlace}
-use Rattle.block.specs.Signs.{Sign, other, sign_of, is_syn, is_dle}
+use Rattle.block.specs.Signs.{CodeTable, Sign, other, sign_of, is_syn, is_dle}
 use Rattle.block.specs.Characters.{is_seven, character}
 use Rattle.block.specs.Walk.{judge}
 
@@ -22,9 +22,9 @@ is_fill Clear s next = is_dle s && is_syn next
 is_fill ClearDle s next = is_syn s
 
 -- the sign of the first byte
-abbrev pub first_sign : Bool → List ℕ → Sign
-first_sign seven [] = other
-first_sign seven (b ∷ rest) = sign_of (character seven b)
+abbrev pub first_sign : CodeTable → Bool → List ℕ → Sign
+first_sign t seven [] = other
+first_sign t seven (b ∷ rest) = sign_of t (character seven b)
 
 -- behind a byte that was judged: up to the end sign `go` walks on, behind it nothing is fill
 abbrev pub unfilled_behind : (Field → List ℕ) → List ℕ → Judged → List ℕ
@@ -35,11 +35,11 @@ unfilled_behind go rest OutOfPlace = rest
 unfilled_behind go rest DleOutOfPlace = rest
 
 -- what is left of a line, from the field f on
-abbrev pub unfilled : Bool → List ℕ → Field → List ℕ
-unfilled seven [] f = []
-unfilled seven (b ∷ rest) f =
-    cons_if (not (is_fill f (sign_of (character seven b)) (first_sign seven rest))) b
-    (unfilled_behind (unfilled seven rest) rest (judge seven f (sign_of (character seven b))))
+abbrev pub unfilled : CodeTable → Bool → List ℕ → Field → List ℕ
+unfilled t seven [] f = []
+unfilled t seven (b ∷ rest) f =
+    cons_if (not (is_fill f (sign_of t (character seven b)) (first_sign t seven rest))) b
+    (unfilled_behind (unfilled t seven rest) rest (judge seven f (sign_of t (character seven b))))
 
-unfoldable pub without_fill : Method → List ℕ → List ℕ
-without_fill m line = unfilled (is_seven m) line Start
+unfoldable pub without_fill : CodeTable → Method → List ℕ → List ℕ
+without_fill t m line = unfilled t (is_seven m) line Start

@@ -8,3 +8,4 @@ pub mod Fill
 pub mod LeadingFill
 pub mod Second
 pub mod Rows
+pub mod Codes

@@ -1,4 +1,4 @@
--- The starred rows of document 01, "Lines to try": what is put to the rules, and what they are to answer. Assumes nothing.
+-- The starred rows of document 01, "Lines to try", and of document 02: what is put to the rules, and what they are to answer. Assumes nothing.
 use Rattle.std.specs.Prelude.{ℕ, Bool, true, false, ◌&&◌, List, [], ◌∷◌, map, eqb, length}
 use Rattle.bits.specs.Bytes.{pack}
 use Rattle.bits.specs.Differences.{differing_bits}
@@ -14,15 +14,17 @@ use Rattle.block.specs.declared.Shape.{Shape}
 use Rattle.block.specs.declared.Shape.TheVariants as shape
 use Rattle.block.specs.declared.EndSign.{EndSign}
 use Rattle.block.specs.declared.EndSign.TheVariants.{Etx, Etb}
+use Rattle.block.specs.Signs.{koi7, dkoi}
 use Rattle.block.specs.Marks.{LeftOutByte}
 use Rattle.block.specs.Read.{Framing, none, framing, framing_of, ReadAnswer, taken, refusal, read_block}
 use Rattle.frame.specs.Read.{Framed, found, unframed, framed, check_in}
 use Rattle.frame.specs.Write as frames
 
--- what is put to a rule: a line to read; a line to read and to compare with row 1; a content to write as a frame; n, w, c and the
--- numbers received in turn
+-- what is put to a rule: a line to read, in KOI-7 or in DKOI; a line to read and to compare with row 1, both in KOI-7; a content to
+-- write as a frame; n, w, c and the numbers received in turn
 pub data Row : Type 0 where
   read : Method → Parity → List ℕ → Row
+  read_dkoi : Method → Parity → List ℕ → Row
   compare : Method → Parity → List ℕ → Row
   write : Parameters → List ℕ → Row
   receive : ℕ → ℕ → ℕ → List ℕ → Row
@@ -68,8 +70,9 @@ frame_result m (frames.written bits) = frame (check_found m (framed m bits)) (le
 frame_result m (frames.refusal number value) = refused number value
 
 abbrev pub result_of : Row → Result
-result_of (read m p line) = block (read_block m p line room)
-result_of (compare m p line) = compared (read_block m p line room) (length (differing_bits row1 line)) (same_framing (framing_of m p row1) (framing_of m p line))
+result_of (read m p line) = block (read_block koi7 m p line room)
+result_of (read_dkoi m p line) = block (read_block dkoi m p line room)
+result_of (compare m p line) = compared (read_block koi7 m p line room) (length (differing_bits row1 line)) (same_framing (framing_of koi7 m p row1) (framing_of koi7 m p line))
 result_of (write m content) = frame_result m (frames.write_frame m content room)
 result_of (receive n w c bs) = received (map (λ (o : Outcome). o.verdict) (history n w c bs))
 
@@ -96,6 +99,10 @@ rows =
     ∷ read method.Diagonal Even (0x82 ∷ 0x41 ∷ 0x03 ∷ 0x42 ∷ 0x05 ∷ [])
     ∷ read method.Diagonal Even (0x82 ∷ 0x41 ∷ 0x03 ∷ 0x42 ∷ 0x06 ∷ [])
     ∷ read method.Diagonal Even (0x82 ∷ 0x41 ∷ 0x03 ∷ 0x41 ∷ 0x06 ∷ [])
+    -- DKOI (document 02, card 7): fill 32 inside a header that 26 ends; 16 and 17 as data; method 2
+    ∷ read_dkoi Cyclic Even (0x01 ∷ 0x48 ∷ 0x32 ∷ 0x49 ∷ 0x26 ∷ 0x32 ∷ 0xD3 ∷ [])
+    ∷ read_dkoi Cyclic Even (0x02 ∷ 0x16 ∷ 0x17 ∷ 0x41 ∷ 0x03 ∷ 0x50 ∷ 0x10 ∷ [])
+    ∷ read_dkoi Matrix Even row1
     -- 11 and 12
     ∷ write method5 (0xFF ∷ [])
     ∷ write method5 (0xFF ∷ 0xFF ∷ [])
@@ -128,6 +135,10 @@ results =
     ∷ block (parts shape.Text Etx [] (0x41 ∷ []) 2)
     ∷ block (refusal 54 0)
     ∷ block (refusal 18 0)
+    -- DKOI
+    ∷ block (parts shape.Header Etb (0x48 ∷ 0x49 ∷ []) [] 3)
+    ∷ block (parts shape.Text Etx [] (0x16 ∷ 0x17 ∷ 0x41 ∷ []) 4)
+    ∷ block (refusal 58 0)
     -- 11 and 12
     ∷ frame (0x00 ∷ 0xFF ∷ []) 42
     ∷ frame (0xFF ∷ 0xFF ∷ []) 54

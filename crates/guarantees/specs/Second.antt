@@ -7,6 +7,7 @@ use Rattle.block.specs.declared.Method.{Method}
 use Rattle.block.specs.declared.Parity.{Parity}
 use Rattle.block.specs.declared.Shape.{Shape}
 use Rattle.block.specs.declared.EndSign.{EndSign}
+use Rattle.block.specs.Signs.{CodeTable}
 use Rattle.block.specs.Read.{Parts, taken, read_block, output_length}
 use Rattle.block.specs.Write.{written, write_block, counted_length}
 use Rattle.frame.specs.Read as frame-reading
@@ -16,27 +17,27 @@ use Rattle.guarantees.specs.Frames as frame-lines
 use Rattle.guarantees.specs.Fill.{without_fill}
 
 -- the parts that a block is written of, as reading names them
-abbrev pub parts_written : Shape → EndSign → List ℕ → List ℕ → Parts
-parts_written s e head body = record { shape = s; end = e; header = head; text = body; counted = counted_length s head body }
+abbrev pub parts_written : CodeTable → Shape → EndSign → List ℕ → List ℕ → Parts
+parts_written t s e head body = record { shape = s; end = e; header = head; text = body; counted = counted_length t s head body }
 
 -- "reading a written line gives back its parts"
 abbrev pub WrittenReadsBack : Type 0
 WrittenReadsBack =
-    (m : Method) (p : Parity) (s : Shape) (e : EndSign) (head body line : List ℕ) (room space : ℕ)
-    → write_block m p s e head body room ≡ written line → length head + length body ≤ space
-    → read_block m p line space ≡ taken (parts_written s e head body)
+    (t : CodeTable) (m : Method) (p : Parity) (s : Shape) (e : EndSign) (head body line : List ℕ) (room space : ℕ)
+    → write_block t m p s e head body room ≡ written line → length head + length body ≤ space
+    → read_block t m p line space ≡ taken (parts_written t s e head body)
 
 -- "and writing those gives the line without fill signs"
 abbrev pub ReadWritesBack : Type 0
 ReadWritesBack =
-    (m : Method) (p : Parity) (line : List ℕ) (b : Parts) (room space : ℕ) → Bytes line → read_block m p line room ≡ taken b
-    → length (without_fill m line) ≤ space → write_block m p b.shape b.end b.header b.text space ≡ written (without_fill m line)
+    (t : CodeTable) (m : Method) (p : Parity) (line : List ℕ) (b : Parts) (room space : ℕ) → Bytes line → read_block t m p line room ≡ taken b
+    → length (without_fill t m line) ≤ space → write_block t m p b.shape b.end b.header b.text space ≡ written (without_fill t m line)
 
 -- an accepted line is taken wherever the output is long enough for its parts
 abbrev pub AcceptedIsTaken : Type 0
 AcceptedIsTaken =
-    (m : Method) (p : Parity) (line : List ℕ) → block-lines.Accepted m p line
-    → (b : Parts) × ((room : ℕ) → output_length b ≤ room → read_block m p line room ≡ taken b)
+    (t : CodeTable) (m : Method) (p : Parity) (line : List ℕ) → block-lines.Accepted t m p line
+    → (b : Parts) × ((room : ℕ) → output_length b ≤ room → read_block t m p line room ≡ taken b)
 
 -- a frame is taken by its told bits, and from all bytes lent that begin with them
 abbrev pub FrameTaken : Parameters → List Bool → List Bool → ℕ → Type 0

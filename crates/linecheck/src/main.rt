@@ -1,11 +1,11 @@
 // The program of document 01, part 5: reads the settings, a digit 1 to 4 or 7 and `e` or `o`, and one line, which is every byte up to
 // the end of input. It prints `taken` with shape, end sign, lengths of header and text and the counted number, or `refused` with
-// number and place, or `settings`. It reads at most one byte more than question 11 allows, which decides the answer.
+// number and place, or `settings`. Lines are in KOI-7. It reads at most one byte more than question 11 allows, which decides the answer.
 #![tactic(auto)]
 
 ghost use Rattle.std.specs.Prelude.{◌≤◌, length, IfOk};
 
-use block::{Block, LINE_LIMIT, Link, Method, Parity, ReadRefusal};
+use block::{Block, Code, LINE_LIMIT, Link, Method, Parity, ReadRefusal};
 use std::io;
 use std::io::Read;
 
@@ -39,7 +39,15 @@ fn settings_of(input: &[u8]) -> Option<(Link, &[u8])> {
     };
     let method = method_of(*digit)?;
     let parity = parity_of(*letter)?;
-    Some((Link { method, parity }, line))
+    let code = Code::Koi7;
+    Some((
+        Link {
+            method,
+            parity,
+            code,
+        },
+        line,
+    ))
 }
 
 fn print_taken(rt: &impl Print, b: Block) -> io::Result<()> {

@@ -1,6 +1,6 @@
 // Document 01's rows 13 and 15 to 17, run through the calls.
 use crate::print::{print_read, print_written};
-use block::{ETX, EndSign, Link, Method, Parity, Parts, STX, Shape, WriteRefusal};
+use block::{Code, ETX, EndSign, Link, Method, Parity, Parts, STX, Shape, WriteRefusal};
 use block_answers::block_written;
 use block_reader::read_block;
 use block_writer::write_block;
@@ -13,6 +13,7 @@ fn even(method: Method) -> Link {
     Link {
         method,
         parity: Parity::Even,
+        code: Code::Koi7,
     }
 }
 

@@ -17,7 +17,7 @@ use Rattle.block.specs.declared.Field.TheVariants.{Text}
 use Rattle.block.specs.declared.EndSign.TheVariants.{Etx}
 use Rattle.block.specs.declared.Method.TheVariants as method
 use Rattle.block.specs.declared.Parity.TheVariants.{Even}
-use Rattle.block.specs.Signs.{sign_of}
+use Rattle.block.specs.Signs.{koi7, sign_of}
 use Rattle.block.specs.Characters.{character}
 use Rattle.block.specs.Marks.{counted}
 use Rattle.block.specs.Check.{check_of, check_length}
@@ -50,7 +50,7 @@ bytes_full b c h k =
 abbrev marks : List Mark
 marks = LeftOut ∷ (replicate 4095 TextByte ++ (End ∷ []))
 
-framed-first : framed method.Cyclic Even first ≡ found marks Text Etx
+framed-first : framed koi7 method.Cyclic Even first ≡ found marks Text Etx
 unfolding sign_of character framed check_length check_of check_bits formula method3 divide remainder ccitt16 pack pack_into value low_bits bits_of xor
 framed-first = refl
 
@@ -62,39 +62,39 @@ right-first : CheckRight method.Cyclic Even marks first
 unfolding low_bits bits_of check_of check_bits formula method3 divide remainder ccitt16 xor
 right-first = refl
 
-abbrev found_first : Found method.Cyclic Even first
+abbrev found_first : Found koi7 method.Cyclic Even first
 found_first = record { marks = marks; field = Text; end = Etx; is_found = framed-first }
 
-pub accepted_first : Accepted method.Cyclic Even first
-accepted_first = (accepted_right method.Cyclic Even first found_first).1 right-first
+pub accepted_first : Accepted koi7 method.Cyclic Even first
+accepted_first = (accepted_right koi7 method.Cyclic Even first found_first).1 right-first
 
-one_framing : framing_of method.Cyclic Even first ≡ framing_of method.Cyclic Even second
+one_framing : framing_of koi7 method.Cyclic Even first ≡ framing_of koi7 method.Cyclic Even second
 unfolding sign_of character framed framing_of check_length check_of check_bits formula method3 divide remainder ccitt16 pack pack_into value low_bits bits_of xor
 one_framing = refl
 
-pub same_framing : SameFraming (blocks method.Cyclic Even) first second
+pub same_framing : SameFraming (blocks koi7 method.Cyclic Even) first second
 same_framing =
     record {
       lines = (bytes_full 0x41 0xA3 (omega arith) (omega arith), bytes_full 0x43 0xA2 (omega arith) (omega arith));
       one_length = refl;
-      has_framing = has_framing method.Cyclic Even first found_first;
+      has_framing = has_framing koi7 method.Cyclic Even first found_first;
       one_framing = one_framing;
     }
 
 -- the two checked bits in which they differ
-pub differ_apart : differing_checked (blocks method.Cyclic Even) first second ≡ 1 ∷ 32768 ∷ []
+pub differ_apart : differing_checked (blocks koi7 method.Cyclic Even) first second ≡ 1 ∷ 32768 ∷ []
 unfolding sign_of character framed checked_bits check_length check_of check_bits formula method3 divide remainder ccitt16 pack pack_into value low_bits bits_of xor
 differ_apart = refl
 
-pub full_pair : TwoAccepted (blocks method.Cyclic Even) first second
+pub full_pair : TwoAccepted (blocks koi7 method.Cyclic Even) first second
 full_pair =
     record {
       same_framing = same_framing;
       accepted =
-          (accepted_first, (third_property.accepted_where_apart (method_3 Even) tt first second accepted_first same_framing 1 32768 differ_apart).1 refl);
+          (accepted_first, (third_property.accepted_where_apart (method_3 koi7 Even) tt first second accepted_first same_framing 1 32768 differ_apart).1 refl);
       unequal = λ e. omega (arith, ap (λ (l : List ℕ). get_or l 1 0) e);
     }
 
 -- in exactly two bits
-pub two-bits : distance (blocks method.Cyclic Even) first second ≡ 2
-two-bits = (third_property.differ_where_checked (method_3 Even) first second same_framing).1 ∙ ap length differ_apart
+pub two-bits : distance (blocks koi7 method.Cyclic Even) first second ≡ 2
+two-bits = (third_property.differ_where_checked (method_3 koi7 Even) first second same_framing).1 ∙ ap length differ_apart

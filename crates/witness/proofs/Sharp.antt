@@ -22,7 +22,9 @@ use Rattle.block.specs.declared.EndSign.TheVariants.{Etx}
 use Rattle.block.specs.declared.Mark.{Mark}
 use Rattle.block.specs.declared.Mark.TheVariants.{LeftOut, TextByte, End}
 use Rattle.block.specs.declared.Field.TheVariants.{Text}
-use Rattle.block.specs.Signs.{sign_of}
+use Rattle.block.specs.declared.Code.{Code}
+use Rattle.block.specs.declared.Code.TheVariants.{Koi7, Dkoi}
+use Rattle.block.specs.Signs.{CodeTable, koi7, dkoi, table_of, sign_of}
 use Rattle.block.specs.Characters.{character, parity_right}
 use Rattle.block.specs.Diagonals.{diagonal_bits}
 use Rattle.block.specs.Check.{row_sums, matrix_check, diagonal_check, check_of, check_length}
@@ -33,7 +35,7 @@ use Rattle.frame.specs.Read as frame-reading
 use Rattle.guarantees.specs.Lines.{Lines, TwoAccepted, distance, differing_checked, AcceptedHasFraming, NoBurst}
 use Rattle.guarantees.specs.Blocks.{Accepted, checked_bits, blocks}
 use Rattle.guarantees.specs.Frames as frame-lines
-use Rattle.guarantees.specs.Third.{AnyMethod, method_1, method_2, method_3, method_4, method_5, method_6, method_7, lines_of, Has16Bits}
+use Rattle.guarantees.specs.Third.{method_1, method_2, method_3, method_4, method_5, method_6, method_7, lines_of}
 use Rattle.witness.specs.Sharp.{DifferInJust, DifferInBurst, DifferInColumns, SharpBounds}
 use Rattle.guarantees.proofs.Blocks.Framing.{CheckRight, accepted_right}
 use Rattle.guarantees.proofs.Frames.Framing as frame-framing
@@ -74,68 +76,68 @@ in_burst {L = L} {A} {B} never t {ns} e h =
 abbrev marks_of : ℕ → List Mark
 marks_of n = LeftOut ∷ (replicate n TextByte ++ End ∷ [])
 
-module _ (m : Method) (p : Parity) (n : ℕ) where
+module _ (t : CodeTable) (m : Method) (p : Parity) (n : ℕ) where
   abbrev IsText : List ℕ → Type 0
-  IsText line = (framed m p line ≡ found (marks_of n) Text Etx) × CheckRight m p (marks_of n) line
+  IsText line = (framed t m p line ≡ found (marks_of n) Text Etx) × CheckRight m p (marks_of n) line
 
-  text_accepted : (line : List ℕ) → IsText line → Accepted m p line
-  text_accepted line (e, right) = (accepted_right m p line (record { marks = marks_of n; field = Text; end = Etx; is_found = e })).1 right
+  text_accepted : (line : List ℕ) → IsText line → Accepted t m p line
+  text_accepted line (e, right) = (accepted_right t m p line (record { marks = marks_of n; field = Text; end = Etx; is_found = e })).1 right
 
-  text_pair : (A B : List ℕ) → Bytes A × Bytes B → length A ≡ length B → framing_of m p A ≡ framing_of m p B → IsText A → IsText B
-      → {k : ℕ} → distance (blocks m p) A B ≡ suc k → TwoAccepted (blocks m p) A B
+  text_pair : (A B : List ℕ) → Bytes A × Bytes B → length A ≡ length B → framing_of t m p A ≡ framing_of t m p B → IsText A → IsText B
+      → {k : ℕ} → distance (blocks t m p) A B ≡ suc k → TwoAccepted (blocks t m p) A B
   text_pair A B bytes size one a b =
-      two_accepted (blocks m p) (block_has_framing m p) A B bytes size one (text_accepted A a, text_accepted B b)
+      two_accepted (blocks t m p) (block_has_framing t m p) A B bytes size one (text_accepted A a, text_accepted B b)
 
 -- two bits of one character
-parity_pair : (p : Parity) → DifferInJust 2 (lines_of (method_1 p))
+parity_pair : (p : Parity) → DifferInJust 2 (lines_of (method_1 koi7 p))
 unfolding framed framing_of parity_right character sign_of check_of check_length pack pack_into value low_bits bits_of xor
 parity_pair Even =
     record {
       A = 0x82 ∷ 0x41 ∷ 0x03 ∷ [];
       B = 0x82 ∷ 0x42 ∷ 0x03 ∷ [];
-      two_accepted = text_pair method.Parity Even 1 _ _ (omega arith) refl refl (refl, refl) (refl, refl) refl;
+      two_accepted = text_pair koi7 method.Parity Even 1 _ _ (omega arith) refl refl (refl, refl) (refl, refl) refl;
       bits = refl;
     }
 parity_pair Odd =
     record {
       A = 0x02 ∷ 0xC1 ∷ 0x83 ∷ [];
       B = 0x02 ∷ 0xC2 ∷ 0x83 ∷ [];
-      two_accepted = text_pair method.Parity Odd 1 _ _ (omega arith) refl refl (refl, refl) (refl, refl) refl;
+      two_accepted = text_pair koi7 method.Parity Odd 1 _ _ (omega arith) refl refl (refl, refl) (refl, refl) refl;
       bits = refl;
     }
 
 -- rows 1 and 5 of document 01; row 2 with its character and check exchanged
-matrix_pair : (p : Parity) → DifferInJust 4 (lines_of (method_2 p))
+matrix_pair : (p : Parity) → DifferInJust 4 (lines_of (method_2 koi7 p))
 unfolding framed framing_of parity_right character sign_of check_of check_length pack pack_into value matrix_check row_sums low_bits bits_of xor
 matrix_pair Even =
     record {
       A = 0x82 ∷ 0x41 ∷ 0x03 ∷ 0x42 ∷ [];
       B = 0x82 ∷ 0x42 ∷ 0x03 ∷ 0x41 ∷ [];
-      two_accepted = text_pair method.Matrix Even 1 _ _ (omega arith) refl refl (refl, refl) (refl, refl) refl;
+      two_accepted = text_pair koi7 method.Matrix Even 1 _ _ (omega arith) refl refl (refl, refl) (refl, refl) refl;
       bits = refl;
     }
 matrix_pair Odd =
     record {
       A = 0x02 ∷ 0xC1 ∷ 0x83 ∷ 0xC2 ∷ [];
       B = 0x02 ∷ 0xC2 ∷ 0x83 ∷ 0xC1 ∷ [];
-      two_accepted = text_pair method.Matrix Odd 1 _ _ (omega arith) refl refl (refl, refl) (refl, refl) refl;
+      two_accepted = text_pair koi7 method.Matrix Odd 1 _ _ (omega arith) refl refl (refl, refl) (refl, refl) refl;
       bits = refl;
     }
 
 -- two characters exchanged
-exchanged_pair : (p : Parity) → DifferInBurst 10 (lines_of (method_2 p))
+exchanged_pair : (p : Parity) → DifferInBurst 10 (lines_of (method_2 koi7 p))
 unfolding framed framing_of checked_bits parity_right character sign_of check_of check_length pack pack_into value matrix_check row_sums low_bits bits_of xor
 exchanged_pair Even =
-    in_burst (third_property.burst_matrix Even)
-    (text_pair method.Matrix Even 2 (0x82 ∷ 0x41 ∷ 0x42 ∷ 0x03 ∷ 0x00 ∷ []) (0x82 ∷ 0x42 ∷ 0x41 ∷ 0x03 ∷ 0x00 ∷ [])
+    in_burst (third_property.burst_matrix koi7 Even)
+    (text_pair koi7 method.Matrix Even 2 (0x82 ∷ 0x41 ∷ 0x42 ∷ 0x03 ∷ 0x00 ∷ []) (0x82 ∷ 0x42 ∷ 0x41 ∷ 0x03 ∷ 0x00 ∷ [])
     (omega arith) refl refl (refl, refl) (refl, refl) refl) {ns = 0 ∷ 1 ∷ 8 ∷ 9 ∷ []} refl (omega arith)
 exchanged_pair Odd =
-    in_burst (third_property.burst_matrix Odd)
-    (text_pair method.Matrix Odd 2 (0x02 ∷ 0xC1 ∷ 0xC2 ∷ 0x83 ∷ 0x80 ∷ []) (0x02 ∷ 0xC2 ∷ 0xC1 ∷ 0x83 ∷ 0x80 ∷ [])
+    in_burst (third_property.burst_matrix koi7 Odd)
+    (text_pair koi7 method.Matrix Odd 2 (0x02 ∷ 0xC1 ∷ 0xC2 ∷ 0x83 ∷ 0x80 ∷ []) (0x02 ∷ 0xC2 ∷ 0xC1 ∷ 0x83 ∷ 0x80 ∷ [])
     (omega arith) refl refl (refl, refl) (refl, refl) refl) {ns = 0 ∷ 1 ∷ 8 ∷ 9 ∷ []} refl (omega arith)
 
 -- the text's first character and the row check: columns 1 and 8 of eight
-eight_columns : (p : Parity) → DifferInColumns 4 7 (1 ∷ 1 ∷ 8 ∷ 8 ∷ []) (lines_of (method_7 p))
+eight_columns : (p : Parity) → DifferInColumns 4 7 (1 ∷ 1 ∷ 8 ∷ 8 ∷ []) (lines_of (method_7 koi7 p))
 unfolding framed framing_of checked_bits parity_right character sign_of check_of check_length pack pack_into value matrix_check row_sums diagonal_check diagonal_bits low_bits bits_of xor
 eight_columns Even =
     record {
@@ -143,7 +145,7 @@ eight_columns Even =
           record {
             A = 0x82 ∷ 0x41 ∷ 0x41 ∷ 0x41 ∷ 0x41 ∷ 0x41 ∷ 0x41 ∷ 0x03 ∷ 0x03 ∷ 0x0C ∷ [];
             B = 0x82 ∷ 0x42 ∷ 0x41 ∷ 0x41 ∷ 0x41 ∷ 0x41 ∷ 0x41 ∷ 0x03 ∷ 0x00 ∷ 0x0C ∷ [];
-            two_accepted = text_pair method.Diagonal Even 6 _ _ (omega arith) refl refl (refl, refl) (refl, refl) refl;
+            two_accepted = text_pair koi7 method.Diagonal Even 6 _ _ (omega arith) refl refl (refl, refl) (refl, refl) refl;
             bits = refl;
           };
       counted = refl;
@@ -155,7 +157,7 @@ eight_columns Odd =
           record {
             A = 0x02 ∷ 0xC1 ∷ 0xC1 ∷ 0xC1 ∷ 0xC1 ∷ 0xC1 ∷ 0xC1 ∷ 0x83 ∷ 0x83 ∷ 0x8C ∷ [];
             B = 0x02 ∷ 0xC2 ∷ 0xC1 ∷ 0xC1 ∷ 0xC1 ∷ 0xC1 ∷ 0xC1 ∷ 0x83 ∷ 0x80 ∷ 0x8C ∷ [];
-            two_accepted = text_pair method.Diagonal Odd 6 _ _ (omega arith) refl refl (refl, refl) (refl, refl) refl;
+            two_accepted = text_pair koi7 method.Diagonal Odd 6 _ _ (omega arith) refl refl (refl, refl) (refl, refl) refl;
             bits = refl;
           };
       counted = refl;
@@ -163,7 +165,7 @@ eight_columns Odd =
     }
 
 -- a character, the row check and the diagonal character
-three_columns : (p : Parity) → DifferInColumns 6 2 (1 ∷ 1 ∷ 3 ∷ 3 ∷ 4 ∷ 4 ∷ []) (lines_of (method_7 p))
+three_columns : (p : Parity) → DifferInColumns 6 2 (1 ∷ 1 ∷ 3 ∷ 3 ∷ 4 ∷ 4 ∷ []) (lines_of (method_7 koi7 p))
 unfolding framed framing_of checked_bits parity_right character sign_of check_of check_length pack pack_into value matrix_check row_sums diagonal_check diagonal_bits low_bits bits_of xor
 three_columns Even =
     record {
@@ -171,7 +173,7 @@ three_columns Even =
           record {
             A = 0x82 ∷ 0x41 ∷ 0x03 ∷ 0x42 ∷ 0x05 ∷ [];
             B = 0x82 ∷ 0x44 ∷ 0x03 ∷ 0x47 ∷ 0x27 ∷ [];
-            two_accepted = text_pair method.Diagonal Even 1 _ _ (omega arith) refl refl (refl, refl) (refl, refl) refl;
+            two_accepted = text_pair koi7 method.Diagonal Even 1 _ _ (omega arith) refl refl (refl, refl) (refl, refl) refl;
             bits = refl;
           };
       counted = refl;
@@ -183,7 +185,7 @@ three_columns Odd =
           record {
             A = 0x02 ∷ 0xC1 ∷ 0x83 ∷ 0xC2 ∷ 0x85 ∷ [];
             B = 0x02 ∷ 0xC4 ∷ 0x83 ∷ 0xC7 ∷ 0xA7 ∷ [];
-            two_accepted = text_pair method.Diagonal Odd 1 _ _ (omega arith) refl refl (refl, refl) (refl, refl) refl;
+            two_accepted = text_pair koi7 method.Diagonal Odd 1 _ _ (omega arith) refl refl (refl, refl) (refl, refl) refl;
             bits = refl;
           };
       counted = refl;
@@ -191,18 +193,27 @@ three_columns Odd =
     }
 
 -- texts that differ by the generator: x^16 + x^12 + x^5 + 1, and x^16 + x^15 + x^2 + 1
-burst_3 : (p : Parity) → DifferInBurst 17 (lines_of (method_3 p))
+burst_3 : (c : Code) (p : Parity) → DifferInBurst 17 (lines_of (method_3 (table_of c) p))
 unfolding framed framing_of checked_bits character sign_of check_of check_length pack pack_into value check_bits formula method3 ccitt16 remainder divide low_bits bits_of xor
-burst_3 p =
-    in_burst (third_property.burst_16 (method_3 p) tt)
-    (text_pair method.Cyclic p 3 (0x02 ∷ 0x44 ∷ 0x44 ∷ 0x44 ∷ 0x03 ∷ 0x0F ∷ 0xEE ∷ []) (0x02 ∷ 0x55 ∷ 0x4C ∷ 0x45 ∷ 0x03 ∷ 0x0F ∷ 0xEE ∷ [])
+burst_3 Koi7 p =
+    in_burst (third_property.burst_16 (method_3 koi7 p) tt)
+    (text_pair koi7 method.Cyclic p 3 (0x02 ∷ 0x44 ∷ 0x44 ∷ 0x44 ∷ 0x03 ∷ 0x0F ∷ 0xEE ∷ []) (0x02 ∷ 0x55 ∷ 0x4C ∷ 0x45 ∷ 0x03 ∷ 0x0F ∷ 0xEE ∷ [])
+    (omega arith) refl refl (refl, refl) (refl, refl) refl) {ns = 0 ∷ 4 ∷ 11 ∷ 16 ∷ []} refl (omega arith)
+burst_3 Dkoi p =
+    in_burst (third_property.burst_16 (method_3 dkoi p) tt)
+    (text_pair dkoi method.Cyclic p 3 (0x02 ∷ 0x44 ∷ 0x44 ∷ 0x44 ∷ 0x03 ∷ 0x0F ∷ 0xEE ∷ []) (0x02 ∷ 0x55 ∷ 0x4C ∷ 0x45 ∷ 0x03 ∷ 0x0F ∷ 0xEE ∷ [])
     (omega arith) refl refl (refl, refl) (refl, refl) refl) {ns = 0 ∷ 4 ∷ 11 ∷ 16 ∷ []} refl (omega arith)
 
-burst_4 : (p : Parity) → DifferInBurst 17 (lines_of (method_4 p))
+burst_4 : (c : Code) (p : Parity) → DifferInBurst 17 (lines_of (method_4 (table_of c) p))
 unfolding framed framing_of checked_bits character sign_of check_of check_length pack pack_into value check_bits formula method4 ibm16 remainder divide low_bits bits_of xor
-burst_4 p =
-    in_burst (third_property.burst_16 (method_4 p) tt)
-    (text_pair method.CyclicAlternative p 3 (0x02 ∷ 0x44 ∷ 0x71 ∷ 0x44 ∷ 0x03 ∷ 0x37 ∷ 0xEA ∷ [])
+burst_4 Koi7 p =
+    in_burst (third_property.burst_16 (method_4 koi7 p) tt)
+    (text_pair koi7 method.CyclicAlternative p 3 (0x02 ∷ 0x44 ∷ 0x71 ∷ 0x44 ∷ 0x03 ∷ 0x37 ∷ 0xEA ∷ [])
+    (0x02 ∷ 0x47 ∷ 0x31 ∷ 0x45 ∷ 0x03 ∷ 0x37 ∷ 0xEA ∷ [])
+    (omega arith) refl refl (refl, refl) (refl, refl) refl) {ns = 0 ∷ 1 ∷ 14 ∷ 16 ∷ []} refl (omega arith)
+burst_4 Dkoi p =
+    in_burst (third_property.burst_16 (method_4 dkoi p) tt)
+    (text_pair dkoi method.CyclicAlternative p 3 (0x02 ∷ 0x44 ∷ 0x71 ∷ 0x44 ∷ 0x03 ∷ 0x37 ∷ 0xEA ∷ [])
     (0x02 ∷ 0x47 ∷ 0x31 ∷ 0x45 ∷ 0x03 ∷ 0x37 ∷ 0xEA ∷ [])
     (omega arith) refl refl (refl, refl) (refl, refl) refl) {ns = 0 ∷ 1 ∷ 14 ∷ 16 ∷ []} refl (omega arith)
 
@@ -244,22 +255,15 @@ burst_6 =
     refl refl (refl, refl) (refl, refl) refl)
     {ns = 0 ∷ 6 ∷ 9 ∷ 10 ∷ 16 ∷ 20 ∷ 21 ∷ 22 ∷ 24 ∷ 25 ∷ 27 ∷ 28 ∷ 30 ∷ 31 ∷ 32 ∷ []} refl (omega arith)
 
-burst_16 : (m : AnyMethod) → Has16Bits m → DifferInBurst 17 (lines_of m)
-burst_16 (method_1 p) h = absurd h
-burst_16 (method_2 p) h = absurd h
-burst_16 (method_3 p) h = burst_3 p
-burst_16 (method_4 p) h = burst_4 p
-burst_16 method_5 h = burst_5
-burst_16 method_6 h = absurd h
-burst_16 (method_7 p) h = absurd h
-
 pub sharp_bounds : SharpBounds
 sharp_bounds =
     record {
       distance-parity = parity_pair;
       distance_matrix = matrix_pair;
       burst_matrix = exchanged_pair;
-      burst_16 = burst_16;
+      burst_3 = burst_3;
+      burst_4 = burst_4;
+      burst_5 = burst_5;
       burst_32 = burst_6;
       four_diagonal = eight_columns;
       six_diagonal = three_columns;

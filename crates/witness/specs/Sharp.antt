@@ -3,9 +3,11 @@
 use Rattle.std.specs.Prelude.{◌≡◌, ℕ, ◌<◌, List, [], ◌∷◌}
 use Rattle.bits.specs.Differences.{Burst}
 use Rattle.block.specs.declared.Parity.{Parity}
+use Rattle.block.specs.declared.Code.{Code}
+use Rattle.block.specs.Signs.{koi7, table_of}
 use Rattle.guarantees.specs.Lines.{Lines, TwoAccepted, distance, differing_checked}
 use Rattle.guarantees.specs.Columns.{Counted, differing_columns}
-use Rattle.guarantees.specs.Third.{AnyMethod, method_1, method_2, method_6, method_7, lines_of, Has16Bits}
+use Rattle.guarantees.specs.Third.{method_1, method_2, method_3, method_4, method_5, method_6, method_7, lines_of}
 
 -- two unequal accepted lines that differ in just n bits
 pub record DifferInJust (n : ℕ) (L : Lines) : Type 0 where
@@ -29,11 +31,14 @@ pub record DifferInColumns (m n : ℕ) (columns : List ℕ) (L : Lines) : Type 0
   pub columns_are : differing_columns L in_just.A in_just.B ≡ columns
 
 pub record SharpBounds : Type 0 where
-  pub distance-parity : (p : Parity) → DifferInJust 2 (lines_of (method_1 p))
-  pub distance_matrix : (p : Parity) → DifferInJust 4 (lines_of (method_2 p))
-  pub burst_matrix : (p : Parity) → DifferInBurst 10 (lines_of (method_2 p))
-  pub burst_16 : (m : AnyMethod) → Has16Bits m → DifferInBurst 17 (lines_of m)
+  pub distance-parity : (p : Parity) → DifferInJust 2 (lines_of (method_1 koi7 p))
+  pub distance_matrix : (p : Parity) → DifferInJust 4 (lines_of (method_2 koi7 p))
+  pub burst_matrix : (p : Parity) → DifferInBurst 10 (lines_of (method_2 koi7 p))
+  -- under either code
+  pub burst_3 : (c : Code) (p : Parity) → DifferInBurst 17 (lines_of (method_3 (table_of c) p))
+  pub burst_4 : (c : Code) (p : Parity) → DifferInBurst 17 (lines_of (method_4 (table_of c) p))
+  pub burst_5 : DifferInBurst 17 (lines_of method_5)
   pub burst_32 : DifferInBurst 33 (lines_of method_6)
   -- with n + 1 = 8, columns 1 and 8; with n + 1 = 3, six bits
-  pub four_diagonal : (p : Parity) → DifferInColumns 4 7 (1 ∷ 1 ∷ 8 ∷ 8 ∷ []) (lines_of (method_7 p))
-  pub six_diagonal : (p : Parity) → DifferInColumns 6 2 (1 ∷ 1 ∷ 3 ∷ 3 ∷ 4 ∷ 4 ∷ []) (lines_of (method_7 p))
+  pub four_diagonal : (p : Parity) → DifferInColumns 4 7 (1 ∷ 1 ∷ 8 ∷ 8 ∷ []) (lines_of (method_7 koi7 p))
+  pub six_diagonal : (p : Parity) → DifferInColumns 6 2 (1 ∷ 1 ∷ 3 ∷ 3 ∷ 4 ∷ 4 ∷ []) (lines_of (method_7 koi7 p))

@@ -4,8 +4,9 @@
 
 use super::{kinds, parts, Data, DATA};
 use crate::judge::{Judge, Room};
-use crate::lines::{filled, sealed};
-use crate::peer::signs::{Link, Shape, DLE, RESERVED, SHAPES};
+use crate::lines::{filled, sealed, OF_ONE_CODE};
+use crate::peer::block::Parts;
+use crate::peer::signs::{Code, Link, Shape, DLE, SHAPES};
 use crate::random::Random;
 use crate::small::{form, settings};
 
@@ -18,16 +19,17 @@ const ALONE: usize = 200;
 /// a rest, wherever they start.
 const REPLACED: usize = 50;
 
-/// Characters beside the signs, all of them data.
-const BESIDE: [u8; 9] = [0x00, 0x04, 0x0F, 0x11, 0x15, 0x18, 0x1E, 0x20, 0x7F];
-
-/// Each place below a length, with each sign and each character beside them,
-/// without and with its top bit: in methods 1, 2 and 7 just one of the two has
-/// the right parity.
-fn at_each(length: usize) -> impl Iterator<Item = (usize, u8)> {
-    let characters = || RESERVED.into_iter().chain(BESIDE);
-    let bytes = move || characters().flat_map(|c| [c, c | 0x80]);
-    (0..length).flat_map(move |place| bytes().map(move |byte| (place, byte)))
+/// Each place below a length, with each sign, each character beside one and
+/// those that the other code reserves, without and with the top bit: in methods
+/// 1, 2 and 7 just one of the two has the right parity.
+fn at_each(code: Code, length: usize) -> impl Iterator<Item = (usize, u8)> {
+    let sign = move |character: u8| code.sign(character).is_some();
+    let beside = move |c: u8| sign(c) || sign(c + 1) || c > 0 && sign(c - 1);
+    let tried = move |c: &u8| beside(*c) || OF_ONE_CODE.contains(c) || *c == 0x7F;
+    let characters: Vec<u8> = (0..0x80).filter(tried).collect();
+    let bytes: Vec<u8> = characters.iter().flat_map(|c| [*c, *c | 0x80]).collect();
+    let at = move |place| bytes.clone().into_iter().map(move |byte| (place, byte));
+    (0..length).flat_map(at)
 }
 
 pub fn run(judge: &mut Judge, random: &mut Random) {
@@ -63,13 +65,13 @@ fn lengths(judge: &mut Judge, random: &mut Random, kind: (Link, Shape), data: Da
 fn replaced(judge: &mut Judge, random: &mut Random, kind: (Link, Shape), data: Data) {
     let link = kind.0;
     let sound = filled(&parts(random, kind, data, (REPLACED, REPLACED)), |_| 0);
-    for (place, byte) in at_each(sound.len()) {
+    for (place, byte) in at_each(link.code, sound.len()) {
         let mut line = sound.clone();
         line[place] = byte;
         judge.read_block(settings(link), &line, Room::Needed(0));
         judge.read_block(settings(link), &sealed(link, line.clone()), Room::Needed(0));
         if !link.seven_bits() && place > 0 {
-            line[place - 1] = DLE;
+            line[place - 1] = link.code.value(DLE);
             judge.read_block(settings(link), &line, Room::Needed(0));
             judge.read_block(settings(link), &sealed(link, line), Room::Needed(0));
         }
@@ -81,27 +83,31 @@ fn replaced(judge: &mut Judge, random: &mut Random, kind: (Link, Shape), data: D
 fn refused(judge: &mut Judge, random: &mut Random, kind: (Link, Shape)) {
     for length in 14..=REPLACED {
         let sound = parts(random, kind, Data::Above, (length, length));
-        for (place, byte) in at_each(length) {
-            for places in [&[place][..], &[place, length - 1]] {
-                let (mut header, mut text) = (sound.clone(), sound.clone());
-                if put(&mut header.header, places, byte) {
-                    judge.write_block(form(&header), Room::Needed(0));
-                }
-                if put(&mut text.text, places, byte) {
-                    judge.write_block(form(&text), Room::Needed(0));
-                }
-            }
+        for replaced in at_each(kind.0.code, length) {
+            write(judge, &sound, |parts| &mut parts.header, replaced);
+            write(judge, &sound, |parts| &mut parts.text, replaced);
         }
     }
 }
 
-/// Puts a byte at some places of a part, if the shape has that part.
-fn put(part: &mut [u8], places: &[usize], byte: u8) -> bool {
-    if part.is_empty() {
-        return false;
+/// Writes with a byte replaced in a part, if the shape has that part; where it
+/// is refused, also with the last byte replaced.
+fn write(
+    judge: &mut Judge,
+    sound: &Parts,
+    part: impl Fn(&mut Parts) -> &mut [u8],
+    (place, byte): (usize, u8),
+) {
+    let mut parts = sound.clone();
+    if part(&mut parts).is_empty() {
+        return;
     }
-    places.iter().for_each(|place| part[*place] = byte);
-    true
+    part(&mut parts)[place] = byte;
+    if judge.write_block(form(&parts), Room::Needed(0)).is_empty() {
+        let part = part(&mut parts);
+        part[part.len() - 1] = byte;
+        judge.write_block(form(&parts), Room::Needed(0));
+    }
 }
 
 /// One wrong parity at every place of lines of every length, then two: the

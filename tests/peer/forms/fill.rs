@@ -6,7 +6,7 @@ use super::{kinds, parts, Data, DATA};
 use crate::judge::{Judge, Room};
 use crate::lines::filled;
 use crate::peer::block::Parts;
-use crate::peer::signs::{Link, Shape, Text, METHODS, SHAPES};
+use crate::peer::signs::{Link, Shape, Text, SHAPES};
 use crate::random::Random;
 use crate::small::settings;
 
@@ -20,20 +20,18 @@ const PIECE: usize = 256;
 
 pub fn run(judge: &mut Judge, random: &mut Random) {
     for kind in kinds() {
+        let (seven, plain) = (kind.0.seven_bits(), kind.1.text != Text::Clear);
         for data in DATA {
             everywhere(judge, &parts(random, kind, data, (LENGTH, LENGTH)));
         }
-        if !kind.0.seven_bits() {
+        if !seven {
             runs(judge, &parts(random, kind, Data::Above, (130, 130)));
         }
-    }
-    for (method, shape) in METHODS.into_iter().flat_map(|m| SHAPES.map(|s| (m, s))) {
-        let link = Link { method, odd: true };
-        if shape.text != Text::Clear {
-            pieces(judge, random, (link, shape));
+        if plain && (kind.0.odd || !seven) {
+            pieces(judge, random, kind);
         }
-        if shape.text != Text::Clear && !link.seven_bits() {
-            kept(judge, random, (link, shape));
+        if plain && !seven {
+            kept(judge, random, kind);
         }
     }
 }

@@ -2,10 +2,7 @@
 
 /// The bits of `bytes` in the order sent.
 pub fn of_bytes(bytes: &[u8]) -> Vec<bool> {
-    let of_byte = |byte: &u8| {
-        let byte = *byte;
-        (0..8).map(move |power| byte >> power & 1 == 1)
-    };
+    let of_byte = |byte: &u8| [0, 1, 2, 3, 4, 5, 6, 7].map(|power| byte >> power & 1 == 1);
     bytes.iter().flat_map(of_byte).collect()
 }
 

@@ -4,7 +4,7 @@ use super::bits;
 use super::diagonals;
 use super::division::{APPENDIX_1, APPENDIX_3};
 use super::grammar::{walk, Walked};
-use super::signs::{Link, Shape, Text, DLE, ETB, ETX, SOH, STX, SYN, US};
+use super::signs::{Code, Link, Shape, Text, DLE};
 use super::{ask, Refusal};
 
 /// The most bytes of a line that is read.
@@ -23,29 +23,39 @@ pub struct Parts {
     pub text: Vec<u8>,
 }
 
-/// Writes the line of a block: questions 1 to 5.
+/// Writes the line of a block: questions 58 and 1 to 5.
 pub fn write(parts: &Parts) -> Result<Vec<u8>, Refusal> {
+    ask_code(parts.link)?;
     ask_parts(parts.link, parts.shape, &parts.header, &parts.text)?;
     let clear = parts.shape.text == Text::Clear;
+    let code = parts.link.code;
+    let values = |signs: &[u8]| -> Vec<u8> { signs.iter().map(|s| code.value(*s)).collect() };
     let (start, inner_start) = parts.shape.starts();
-    let end = [parts.end_sign];
-    let counted = [&parts.header, inner_start, &parts.text, &end].concat();
+    let (start, inner_start) = (values(start), values(inner_start));
+    let end = values(&[parts.end_sign]);
+    let counted = [&parts.header[..], &inner_start, &parts.text, &end].concat();
     ask(counted.len() <= LONGEST_COUNT, Refusal::plain(5))?;
     let text = if clear {
-        doubled(&parts.text)
+        doubled(code, &parts.text)
     } else {
         parts.text.clone()
     };
-    let before_end: &[u8] = if clear { &[DLE] } else { &[] };
-    let characters = [start, &parts.header, inner_start, &text, before_end, &end].concat();
+    let before_end = values(if clear { &[DLE] } else { &[] });
+    let fields = [&start[..], &parts.header, &inner_start, &text, &before_end];
+    let characters = [&fields.concat()[..], &end].concat();
     let sent = |characters: &[u8]| characters.iter().map(|c| parts.link.sent(*c)).collect();
     let mut line: Vec<u8> = sent(&characters);
     line.extend(check(parts.link, &sent(&counted)));
     Ok(line)
 }
 
+/// Asks whether the method carries the code: question 58, the first of all.
+fn ask_code(link: Link) -> Result<(), Refusal> {
+    ask(link.carries_code(), Refusal::plain(58))
+}
+
 /// Asks what can be asked of the parts one by one: questions 1 to 4.
-pub fn ask_parts(link: Link, shape: Shape, header: &[u8], text: &[u8]) -> Result<(), Refusal> {
+fn ask_parts(link: Link, shape: Shape, header: &[u8], text: &[u8]) -> Result<(), Refusal> {
     let clear = shape.text == Text::Clear;
     ask(!(clear && link.seven_bits()), Refusal::plain(1))?;
     ask(shape.header || header.is_empty(), Refusal::plain(4))?;
@@ -63,10 +73,7 @@ pub fn ask_parts(link: Link, shape: Shape, header: &[u8], text: &[u8]) -> Result
 /// Asks whether every byte may stand in a header or a plain text.
 fn ask_characters(link: Link, part: &[u8], number: u32) -> Result<(), Refusal> {
     let seven = link.seven_bits();
-    let wrong = |byte: &u8| match *byte {
-        SOH | STX | ETX | DLE | SYN | ETB | US => true,
-        byte => seven && byte >= 0x80,
-    };
+    let wrong = |byte: &u8| link.code.sign(*byte).is_some() || seven && *byte >= 0x80;
     match part.iter().position(wrong) {
         Some(place) => Err(Refusal::with(number, place)),
         None => Ok(()),
@@ -74,8 +81,9 @@ fn ask_characters(link: Link, part: &[u8], number: u32) -> Result<(), Refusal> {
 }
 
 /// Clear text as sent: each DLE twice.
-fn doubled(text: &[u8]) -> Vec<u8> {
-    let twice = |byte: &u8| vec![*byte; if *byte == DLE { 2 } else { 1 }];
+fn doubled(code: Code, text: &[u8]) -> Vec<u8> {
+    let dle = code.value(DLE);
+    let twice = |byte: &u8| vec![*byte; if *byte == dle { 2 } else { 1 }];
     text.iter().flat_map(twice).collect()
 }
 
@@ -106,8 +114,9 @@ fn accepts(link: Link, counted: &[u8], tail: &[u8]) -> bool {
     }
 }
 
-/// Finds the framing of a line: questions 11 to 15, 52, 53 and 17.
+/// Finds the framing of a line: questions 58, 11 to 15, 52, 53 and 17.
 pub fn frame(link: Link, line: &[u8]) -> Result<Walked, Refusal> {
+    ask_code(link)?;
     ask(line.len() <= LONGEST_LINE, Refusal::plain(11))?;
     let wrong = line.iter().position(|byte| !link.parity_right(*byte));
     ask(wrong.is_none(), Refusal::with(12, wrong.unwrap_or(0)))?;

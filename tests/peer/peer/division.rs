@@ -20,8 +20,8 @@ impl Polynomial {
 
     /// The product with x^power.
     pub fn times_x_to(&self, power: usize) -> Polynomial {
-        let zeros = std::iter::repeat_n(false, power);
-        Polynomial(zeros.chain(self.0.iter().copied()).collect())
+        let zeros = vec![false; power];
+        Polynomial([&zeros[..], &self.0].concat())
     }
 
     /// The sum modulo 2.
@@ -41,8 +41,9 @@ impl Polynomial {
         let degree = generator[0];
         for power in (degree..self.0.len()).rev() {
             if self.0[power] {
+                let divided = &mut self.0[power - degree..=power];
                 for term in generator {
-                    self.0[power - degree + term] ^= true;
+                    divided[*term] ^= true;
                 }
             }
         }

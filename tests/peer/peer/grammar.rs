@@ -8,8 +8,9 @@
 //! end    = ETX | ETB | US
 //! ```
 //!
-//! The walk answers questions 13 to 15 and notes which bytes of the line are
-//! counted, which are left out, and which are header and text.
+//! Each sign has the value that the link's code gives it. The walk answers
+//! questions 13 to 15 and notes which bytes of the line are counted, which are
+//! left out, and which are header and text.
 
 use super::signs::{Link, Shape, Text, DLE, ENDS, SOH, STX, SYN};
 use super::Refusal;
@@ -72,6 +73,11 @@ impl Walk<'_> {
         Some(self.link.character(*byte))
     }
 
+    /// The sign that stands there, if one does.
+    fn sign(&self, ahead: usize) -> Option<u8> {
+        self.link.code.sign(self.peek(ahead)?)
+    }
+
     /// Passes over bytes that enter the check.
     fn count(&mut self, bytes: usize) {
         self.counted.extend(self.place..self.place + bytes);
@@ -94,12 +100,12 @@ impl Walk<'_> {
     /// Leading SYN are left out; the start question is put to the first byte
     /// that is not SYN (document 02, card 1).
     fn block(&mut self) -> Result<(Shape, u8), Refusal> {
-        while self.peek(0) == Some(SYN) {
+        while self.sign(0) == Some(SYN) {
             self.leave_out(1);
         }
-        let clear_start = !self.link.seven_bits() && self.peek(1) == Some(STX);
-        let header = self.peek(0) == Some(SOH);
-        let (text, end_sign) = match self.peek(0) {
+        let clear_start = !self.link.seven_bits() && self.sign(1) == Some(STX);
+        let header = self.sign(0) == Some(SOH);
+        let (text, end_sign) = match self.sign(0) {
             Some(SOH) => {
                 self.leave_out(1);
                 self.header()?
@@ -119,16 +125,16 @@ impl Walk<'_> {
 
     fn header(&mut self) -> Closed {
         while let Some(character) = self.peek(0) {
-            match character {
-                SOH => return self.out_of_place(),
-                DLE => return self.inner_clear_start(),
-                STX => {
+            match self.sign(0) {
+                Some(SOH) => return self.out_of_place(),
+                Some(DLE) => return self.inner_clear_start(),
+                Some(STX) => {
                     self.count(1);
                     return self.plain();
                 }
-                SYN => self.leave_out(1),
-                end if ENDS.contains(&end) => return self.end(Text::Absent),
-                character => {
+                Some(SYN) => self.leave_out(1),
+                Some(end) => return self.end(Text::Absent, end),
+                None => {
                     self.header.push(character);
                     self.count(1);
                 }
@@ -139,24 +145,26 @@ impl Walk<'_> {
 
     /// A DLE of the header: in methods 3 and 4 it starts the clear text.
     fn inner_clear_start(&mut self) -> Closed {
-        match self.peek(1) {
-            _ if self.link.seven_bits() => self.out_of_place(),
-            None => Err(Refusal::plain(15)),
-            Some(STX) => {
-                self.count(2);
-                self.clear()
-            }
-            Some(_) => self.out_of_place(),
+        if self.link.seven_bits() {
+            return self.out_of_place();
         }
+        if self.peek(1).is_none() {
+            return Err(Refusal::plain(15));
+        }
+        if self.sign(1) != Some(STX) {
+            return self.out_of_place();
+        }
+        self.count(2);
+        self.clear()
     }
 
     fn plain(&mut self) -> Closed {
         while let Some(character) = self.peek(0) {
-            match character {
-                SOH | STX | DLE => return self.out_of_place(),
-                SYN => self.leave_out(1),
-                end if ENDS.contains(&end) => return self.end(Text::Plain),
-                character => {
+            match self.sign(0) {
+                Some(SOH | STX | DLE) => return self.out_of_place(),
+                Some(SYN) => self.leave_out(1),
+                Some(end) => return self.end(Text::Plain, end),
+                None => {
                     self.text.push(character);
                     self.count(1);
                 }
@@ -167,32 +175,33 @@ impl Walk<'_> {
 
     fn clear(&mut self) -> Closed {
         while let Some(byte) = self.peek(0) {
-            if byte != DLE {
+            if self.sign(0) != Some(DLE) {
                 self.text.push(byte);
                 self.count(1);
                 continue;
             }
-            match self.peek(1) {
-                None => return Err(Refusal::plain(15)),
+            if self.peek(1).is_none() {
+                return Err(Refusal::plain(15));
+            }
+            match self.sign(1) {
                 Some(DLE) => {
                     self.leave_out(1);
-                    self.text.push(DLE);
+                    self.text.push(byte);
                     self.count(1);
                 }
                 Some(SYN) => self.leave_out(2),
                 Some(end) if ENDS.contains(&end) => {
                     self.leave_out(1);
-                    return self.end(Text::Clear);
+                    return self.end(Text::Clear, end);
                 }
-                Some(_) => return self.out_of_place(),
+                _ => return self.out_of_place(),
             }
         }
         Err(Refusal::plain(15))
     }
 
     /// The end sign stands here.
-    fn end(&mut self, text: Text) -> Closed {
-        let sign = self.link.character(self.line[self.place]);
+    fn end(&mut self, text: Text, sign: u8) -> Closed {
         self.count(1);
         Ok((text, sign))
     }

@@ -1,5 +1,7 @@
-//! The signs, the link's settings and the shapes of a block.
+//! The signs and their values by code, the link's settings and the shapes of
+//! a block.
 
+/// A sign is named by its value in KOI-7, as the calls name the end signs.
 pub const SOH: u8 = 0x01;
 pub const STX: u8 = 0x02;
 pub const ETX: u8 = 0x03;
@@ -8,24 +10,74 @@ pub const SYN: u8 = 0x16;
 pub const ETB: u8 = 0x17;
 pub const US: u8 = 0x1F;
 
-/// The seven reserved signs.
-pub const RESERVED: [u8; 7] = [SOH, STX, ETX, DLE, SYN, ETB, US];
+/// The seven signs.
+pub const SIGNS: [u8; 7] = [SOH, STX, ETX, DLE, SYN, ETB, US];
 
 /// The three signs that end a block.
 pub const ENDS: [u8; 3] = [ETX, ETB, US];
 
+/// The code of the signs (document 02, card 7).
+#[derive(Clone, Copy, PartialEq, Eq, Debug)]
+pub enum Code {
+    Koi7,
+    Dkoi,
+}
+
+pub const CODES: [Code; 2] = [Code::Koi7, Code::Dkoi];
+
+impl Code {
+    /// The values of the seven signs, in the order of `SIGNS`. They are what
+    /// the code reserves.
+    pub const fn values(self) -> [u8; 7] {
+        match self {
+            Code::Koi7 => [0x01, 0x02, 0x03, 0x10, 0x16, 0x17, 0x1F],
+            Code::Dkoi => [0x01, 0x02, 0x03, 0x10, 0x32, 0x26, 0x1F],
+        }
+    }
+
+    /// The value of a sign.
+    pub fn value(self, sign: u8) -> u8 {
+        let place = SIGNS.iter().position(|one| *one == sign);
+        self.values()[place.expect("one of the seven signs")]
+    }
+
+    /// The sign that a character is, if it is one.
+    pub fn sign(self, character: u8) -> Option<u8> {
+        let values = self.values();
+        let place = values.iter().position(|value| *value == character)?;
+        Some(SIGNS[place])
+    }
+}
+
 /// The methods of blocks.
 pub const METHODS: [u8; 5] = [1, 2, 3, 4, 7];
 
-/// What a link sets for all its blocks: method 1 to 4 or 7, and the parity of
-/// methods 1, 2 and 7.
+/// What a link sets for all its blocks: method 1 to 4 or 7, the parity of
+/// methods 1, 2 and 7, and the code.
 #[derive(Clone, Copy, PartialEq, Eq, Debug)]
 pub struct Link {
     pub method: u8,
     pub odd: bool,
+    pub code: Code,
 }
 
 impl Link {
+    pub const fn koi7(method: u8, odd: bool) -> Link {
+        let code = Code::Koi7;
+        Link { method, odd, code }
+    }
+
+    /// Under DKOI, where no byte has a parity.
+    pub const fn dkoi(method: u8) -> Link {
+        let (odd, code) = (false, Code::Dkoi);
+        Link { method, odd, code }
+    }
+
+    /// Whether the method carries the code: 1, 2 and 7 carry KOI-7 alone.
+    pub fn carries_code(self) -> bool {
+        self.code == Code::Koi7 || !self.seven_bits()
+    }
+
     /// Methods 1, 2 and 7 carry seven-bit characters under a parity bit.
     pub fn seven_bits(self) -> bool {
         [1, 2, 7].contains(&self.method)

@@ -2,6 +2,7 @@
 -- Assumes nothing.
 use Rattle.std.proofs.Common.{◌≡◌, true, false, length}
 use Rattle.generator16.specs.Register.{register_after}
+use Rattle.block.specs.Signs.{table_of}
 use Rattle.block_framing.specs.Framings.{kept_bytes}
 use Rattle.block_segments.specs.Kept.{kept_of}
 use Rattle.block_register.proofs.enter_clear.Given as goal
@@ -11,7 +12,7 @@ invariant-loop-b g l =
     record {
       clear : l.keeping.clear ≡ true;
       eight : l.keeping.seven ≡ false;
-      left : register_after g.G.Generator.generator l.register (kept_of l.keeping l.rest) ≡ register_after g.G.Generator.generator l.start (kept_bytes true false false l.part);
+      left : register_after g.G.Generator.generator l.register (kept_of l.keeping l.rest) ≡ register_after g.G.Generator.generator l.start (kept_bytes (table_of l.fn.code) true false false l.part);
     }
 
 abbrev pub decreases-loop-b : goal.decreases-loop-b

@@ -12,6 +12,7 @@ use Rattle.bits.proofs.Bytes.{length-low_bits, length-bits_of, bits_of_injective
 use Rattle.block.specs.declared.Method.{Method}
 use Rattle.block.specs.declared.Parity.{Parity}
 use Rattle.block.specs.declared.Mark.{Mark}
+use Rattle.block.specs.Signs.{CodeTable}
 use Rattle.block.specs.Marks.{is_counted, counted, check_bytes, LeftOutByte, left_out_if, left_out}
 use Rattle.block.specs.Check.{check_length}
 use Rattle.block.proofs.Passed.{Passed, passed}
@@ -120,39 +121,39 @@ masks at (k ∷ ks) (j ∷ js) (a ∷ x) (b ∷ y) h l e =
 
 -- ---- lines
 
-module _ (m : Method) (p : Parity) (line : List ℕ) (r : Found m p line) where
-  pub checked_bits_lem : checked_bits m p line ≡ bits_of (counted r.marks line ++ check_bytes r.marks line)
+module _ (table : CodeTable) (m : Method) (p : Parity) (line : List ℕ) (r : Found table m p line) where
+  pub checked_bits_lem : checked_bits table m p line ≡ bits_of (counted r.marks line ++ check_bytes r.marks line)
   unfolding checked_bits
   checked_bits_lem = ap (checked_in line) r.is_found
 
-  is_checked_lem : is_checked m p line ≡ each_eight (checked_bytes r.marks line)
+  is_checked_lem : is_checked table m p line ≡ each_eight (checked_bytes r.marks line)
   unfolding is_checked
   is_checked_lem = ap (is_checked_in line) r.is_found
 
-  pub all-passed : Passed m p line r.marks r.field r.end
-  all-passed = passed m p line r.marks r.field r.end r.is_found
+  pub all-passed : Passed table m p line r.marks r.field r.end
+  all-passed = passed table m p line r.marks r.field r.end r.is_found
 
-  pub checked-length : length (checked_bits m p line) ≡ 8 * (length (counted r.marks line) + check_length m)
+  pub checked-length : length (checked_bits table m p line) ≡ 8 * (length (counted r.marks line) + check_length m)
   checked-length =
       let c = counted r.marks line in
       let k = check_bytes r.marks line in
       let n : length k ≡ check_length m = length-drop (length r.marks) line ∙ omega (arith, all-passed.closes) in
       ap length checked_bits_lem ∙ length-bits_of (c ++ k) ∙ ap (λ z. 8 * z) (length-append c k ∙ ap (λ z. length c + z) n)
 
-  selected : select (is_checked m p line) (bits_of line) ≡ checked_bits m p line
+  selected : select (is_checked table m p line) (bits_of line) ≡ checked_bits table m p line
   selected = ap (λ z. select z (bits_of line)) is_checked_lem ∙ select-checked r.marks line ∙ sym checked_bits_lem
 
-pub block_bridge : (m : Method) (p : Parity) → Bridge (blocks m p)
-block_bridge m p A B s =
-    let o = one_framing m p A B s in
+pub block_bridge : (table : CodeTable) (m : Method) (p : Parity) → Bridge (blocks table m p)
+block_bridge table m p A B s =
+    let o = one_framing table m p A B s in
     let ka = o.a.marks in
     let kb = o.b.marks in
-    let n : length ka ≡ length kb = omega (arith, (all-passed m p A o.a).closes, (all-passed m p B o.b).closes, s.one_length) in
+    let n : length ka ≡ length kb = omega (arith, (all-passed table m p A o.a).closes, (all-passed table m p B o.b).closes, s.one_length) in
     let one = masks 0 ka kb A B n s.one_length o.one_left_out in
-    let i : is_checked m p A ≡ is_checked m p B = is_checked_lem m p A o.a ∙ ap each_eight one.one_mask ∙ sym (is_checked_lem m p B o.b) in
+    let i : is_checked table m p A ≡ is_checked table m p B = is_checked_lem table m p A o.a ∙ ap each_eight one.one_mask ∙ sym (is_checked_lem table m p B o.b) in
     record {
-      agree = rw (is_checked_lem m p A o.a) one.agree;
-      first = selected m p A o.a;
-      second = ap (λ z. select z (bits_of B)) i ∙ selected m p B o.b;
+      agree = rw (is_checked_lem table m p A o.a) one.agree;
+      first = selected table m p A o.a;
+      second = ap (λ z. select z (bits_of B)) i ∙ selected table m p B o.b;
       injective = bits_of_injective A B s.lines.0 s.lines.1 s.one_length;
     }

@@ -14,6 +14,7 @@ use Rattle.bits.proofs.Bytes.{length-low_bits, length-bits_of, bits_of_one}
 use Rattle.bits.proofs.Differences.{equal_of_differing}
 use Rattle.block.specs.declared.Method.TheVariants as method
 use Rattle.block.specs.declared.Parity.{Parity}
+use Rattle.block.specs.Signs.{CodeTable}
 use Rattle.block.specs.Characters.{is_odd}
 use Rattle.block.specs.Marks.{counted, check_bytes}
 use Rattle.block.specs.Read.{Parts, taken, read_block}
@@ -102,12 +103,12 @@ right_bytes p c (a ∷ b ∷ []) l e =
     )
 right_bytes p c (a ∷ b ∷ d ∷ r) l e = absurd (omega arith)
 
-right_line : (p : Parity) (line : List ℕ) (r : Found method.Diagonal p line) → Accepted method.Diagonal p line → RightBytes (checked_of r.marks line)
+right_line : (table : CodeTable) (p : Parity) (line : List ℕ) (r : Found table method.Diagonal p line) → Accepted table method.Diagonal p line → RightBytes (checked_of r.marks line)
 unfolding check_of
-right_line p line r acc =
+right_line table p line r acc =
     right_bytes p (counted r.marks line) (check_bytes r.marks line)
-    (length-drop (length r.marks) line ∙ omega (arith, (all-passed method.Diagonal p line r).closes, check_length_lem method.Diagonal))
-    ((accepted_right method.Diagonal p line r).0 acc)
+    (length-drop (length r.marks) line ∙ omega (arith, (all-passed table method.Diagonal p line r).closes, check_length_lem method.Diagonal))
+    ((accepted_right table method.Diagonal p line r).0 acc)
 
 -- ---- two lines
 
@@ -120,53 +121,53 @@ bound_of x y size pairs unequal (u, d, ex, rx) (v, e, ey, ry) n l =
     rw (ex, ey, ← lu) b
 
 -- the columns of their differing bits
-line_bound : (p : Parity) (A B : List ℕ) → TwoAccepted (blocks method.Diagonal p) A B → (n : ℕ)
-    → length (checked_bits method.Diagonal p A) ≡ 8 * (n + 2) → Bound (n + 1) (differing_columns (blocks method.Diagonal p) A B)
-line_bound p A B t n l =
-    let o = one_framing method.Diagonal p A B t.same_framing in
-    let w = two_checked method.Diagonal refl p A B t o in
+line_bound : (table : CodeTable) (p : Parity) (A B : List ℕ) → TwoAccepted (blocks table method.Diagonal p) A B → (n : ℕ)
+    → length (checked_bits table method.Diagonal p A) ≡ 8 * (n + 2) → Bound (n + 1) (differing_columns (blocks table method.Diagonal p) A B)
+line_bound table p A B t n l =
+    let o = one_framing table method.Diagonal p A B t.same_framing in
+    let w = two_checked table method.Diagonal refl p A B t o in
     rw (w.bits-x, w.bits-y)
     (bound_of (checked_of o.a.marks A) (checked_of o.b.marks B) w.size w.pairs w.unequal
-    (right_line p A o.a t.accepted.0)
-    (right_line p B o.b t.accepted.1)
-    n (omega (arith, length-checked_of method.Diagonal p A o.a)))
+    (right_line table p A o.a t.accepted.0)
+    (right_line table p B o.b t.accepted.1)
+    n (omega (arith, length-checked_of table method.Diagonal p A o.a)))
 
 -- n counted bytes and two check bytes
-line_length : (p : Parity) (line : List ℕ) (r : Found method.Diagonal p line)
-    → length (checked_bits method.Diagonal p line) ≡ 8 * (length (counted r.marks line) + 2)
-line_length p line r = omega (arith, checked-length method.Diagonal p line r, check_length_lem method.Diagonal)
+line_length : (table : CodeTable) (p : Parity) (line : List ℕ) (r : Found table method.Diagonal p line)
+    → length (checked_bits table method.Diagonal p line) ≡ 8 * (length (counted r.marks line) + 2)
+line_length table p line r = omega (arith, checked-length table method.Diagonal p line r, check_length_lem method.Diagonal)
 
-pub counted_diagonal : (p : Parity) (line : List ℕ) (b : Parts) (room : ℕ) → read_block method.Diagonal p line room ≡ taken b
-    → Counted (blocks method.Diagonal p) line b.counted
-counted_diagonal p line b room e =
-    let k = taken_passed method.Diagonal p line room e in
-    omega (arith, line_length p line k.framing, ap (λ (x : Parts). x.counted) k.parts)
+pub counted_diagonal : (table : CodeTable) (p : Parity) (line : List ℕ) (b : Parts) (room : ℕ) → read_block table method.Diagonal p line room ≡ taken b
+    → Counted (blocks table method.Diagonal p) line b.counted
+counted_diagonal table p line b room e =
+    let k = taken_passed table method.Diagonal p line room e in
+    omega (arith, line_length table p line k.framing, ap (λ (x : Parts). x.counted) k.parts)
 
-distance-columns : (p : Parity) (A B : List ℕ) → TwoAccepted (blocks method.Diagonal p) A B
-    → distance (blocks method.Diagonal p) A B ≡ length (differing_columns (blocks method.Diagonal p) A B)
-distance-columns p A B t =
-    (differ_where_checked (blocks method.Diagonal p) (block_bridge method.Diagonal p) A B t.same_framing).1
-    ∙ sym (length-map (differing_checked (blocks method.Diagonal p) A B) column_of)
+distance-columns : (table : CodeTable) (p : Parity) (A B : List ℕ) → TwoAccepted (blocks table method.Diagonal p) A B
+    → distance (blocks table method.Diagonal p) A B ≡ length (differing_columns (blocks table method.Diagonal p) A B)
+distance-columns table p A B t =
+    (differ_where_checked (blocks table method.Diagonal p) (block_bridge table method.Diagonal p) A B t.same_framing).1
+    ∙ sym (length-map (differing_checked (blocks table method.Diagonal p) A B) column_of)
 
-pub distance_diagonal : (p : Parity) → AtLeast 4 (blocks method.Diagonal p)
-distance_diagonal p A B t =
-    let a = (one_framing method.Diagonal p A B t.same_framing).a in
-    go (line_bound p A B t (length (counted a.marks A)) (line_length p A a))
+pub distance_diagonal : (table : CodeTable) (p : Parity) → AtLeast 4 (blocks table method.Diagonal p)
+distance_diagonal table p A B t =
+    let a = (one_framing table method.Diagonal p A B t.same_framing).a in
+    go (line_bound table p A B t (length (counted a.marks A)) (line_length table p A a))
   where
-    go : {n : ℕ} → Bound n (differing_columns (blocks method.Diagonal p) A B) → 4 ≤ distance (blocks method.Diagonal p) A B
-    go (six h) = omega (arith, distance-columns p A B t)
-    go (four h) = omega (arith, distance-columns p A B t, ap length h.two_each)
+    go : {n : ℕ} → Bound n (differing_columns (blocks table method.Diagonal p) A B) → 4 ≤ distance (blocks table method.Diagonal p) A B
+    go (six h) = omega (arith, distance-columns table p A B t)
+    go (four h) = omega (arith, distance-columns table p A B t, ap length h.two_each)
 
-pub four_diagonal : (p : Parity) → FourWhereApart 7 (blocks method.Diagonal p)
-four_diagonal p A B t n l e = go (line_bound p A B t n l)
+pub four_diagonal : (table : CodeTable) (p : Parity) → FourWhereApart 7 (blocks table method.Diagonal p)
+four_diagonal table p A B t n l e = go (line_bound table p A B t n l)
   where
-    go : Bound (n + 1) (differing_columns (blocks method.Diagonal p) A B) → TwoColumnsApart 7 (n + 1) (differing_columns (blocks method.Diagonal p) A B)
-    go (six h) = absurd (omega (arith, distance-columns p A B t))
+    go : Bound (n + 1) (differing_columns (blocks table method.Diagonal p) A B) → TwoColumnsApart 7 (n + 1) (differing_columns (blocks table method.Diagonal p) A B)
+    go (six h) = absurd (omega (arith, distance-columns table p A B t))
     go (four h) = h
 
-pub six_diagonal : (p : Parity) → AtLeastWhereFew 6 7 (blocks method.Diagonal p)
-six_diagonal p A B t n l few = go (line_bound p A B t n l)
+pub six_diagonal : (table : CodeTable) (p : Parity) → AtLeastWhereFew 6 7 (blocks table method.Diagonal p)
+six_diagonal table p A B t n l few = go (line_bound table p A B t n l)
   where
-    go : Bound (n + 1) (differing_columns (blocks method.Diagonal p) A B) → 6 ≤ distance (blocks method.Diagonal p) A B
-    go (six h) = omega (arith, distance-columns p A B t)
+    go : Bound (n + 1) (differing_columns (blocks table method.Diagonal p) A B) → 6 ≤ distance (blocks table method.Diagonal p) A B
+    go (six h) = omega (arith, distance-columns table p A B t)
     go (four h) = absurd (omega (arith, h.within, h.apart))

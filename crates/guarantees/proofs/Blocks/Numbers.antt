@@ -17,8 +17,8 @@ use Rattle.block.specs.declared.Field.{Field}
 use Rattle.block.specs.declared.Field.TheVariants.{Start, StartDle, Header, HeaderDle, Text, Clear, ClearDle}
 use Rattle.block.specs.declared.Judged.{Judged}
 use Rattle.block.specs.declared.Judged.TheVariants.{Is, Ends, NoStart, OutOfPlace, DleOutOfPlace}
-use Rattle.block.specs.Signs.{sign_of}
-use Rattle.block.specs.Characters.{is_seven, character, parity_right}
+use Rattle.block.specs.Signs.{CodeTable, sign_of}
+use Rattle.block.specs.Characters.{is_seven, carries, character, parity_right}
 use Rattle.block.specs.Walk.{Stop, ended, refused, Walked, judge, cut, onward, walk}
 use Rattle.block.specs.Marks.{counted, check_bytes}
 use Rattle.block.specs.Check.{check_of, check_length}
@@ -34,6 +34,7 @@ use Rattle.guarantees.proofs.Lines.Numbers.{Numbered, listed, for_output, only_l
 
 -- a list with the numbers that every method can give
 record Lists (ns : List ℕ) : Type 0 where
+  not_carried : is_one_of ns 58 ≡ true
   too_long : is_one_of ns 11 ≡ true
   wrong_parity : is_one_of ns 12 ≡ true
   no_start : is_one_of ns 13 ≡ true
@@ -50,7 +51,7 @@ abbrev FramedIn : List ℕ → Framed → Type 0
 FramedIn ns (found ks f e) = Unit
 FramedIn ns (unframed n v) = is_one_of ns n ≡ true
 
-module _ {ns : List ℕ} (lists : Lists ns) where
+module _ (table : CodeTable) {ns : List ℕ} (lists : Lists ns) where
   cut_in : (f : Field) → StopIn ns (cut f)
   cut_in Start = lists.no_start
   cut_in StartDle = lists.no_start
@@ -67,9 +68,9 @@ module _ {ns : List ℕ} (lists : Lists ns) where
   onward_in go h f at OutOfPlace = lists.out_of_place
   onward_in go h f at DleOutOfPlace = lists.out_of_place
 
-  walk_in : (seven : Bool) (line : List ℕ) (at : ℕ) (f : Field) → StopIn ns (walk seven line at f).stop
+  walk_in : (seven : Bool) (line : List ℕ) (at : ℕ) (f : Field) → StopIn ns (walk table seven line at f).stop
   walk_in seven [] at f = cut_in f
-  walk_in seven (b ∷ line) at f = onward_in (walk seven line (at + 1)) (walk_in seven line (at + 1)) f at (judge seven f (sign_of (character seven b)))
+  walk_in seven (b ∷ line) at f = onward_in (walk table seven line (at + 1)) (walk_in seven line (at + 1)) f at (judge seven f (sign_of table (character seven b)))
 
   ask_in : (holds : Bool) (n v : ℕ) (next : Framed) → (holds ≡ false → is_one_of ns n ≡ true) → FramedIn ns next → FramedIn ns (ask holds n v next)
   ask_in true n v next b h = h
@@ -93,38 +94,39 @@ module _ {ns : List ℕ} (lists : Lists ns) where
       (ask_in (leb (length (counted ks line)) counted_limit) 17 0 (found ks f e) (λ q. lists.too_many) tt))
 
   framed_in : (m : Method) (p : Parity) (line : List ℕ)
-      → (leb (length (walk (is_seven m) line 0 Start).marks + check_length m) (length line) ≡ false → is_one_of ns 52 ≡ true) → FramedIn ns (framed m p line)
+      → (leb (length (walk table (is_seven m) line 0 Start).marks + check_length m) (length line) ≡ false → is_one_of ns 52 ≡ true) → FramedIn ns (framed table m p line)
   unfolding framed
   framed_in m p line short =
-      let w = walk (is_seven m) line 0 Start in
+      let w = walk table (is_seven m) line 0 Start in
       let next = ask_walk m line w in
       let h = end_in m line w.marks w.stop short (walk_in (is_seven m) line 0 Start) in
-      ask_in (leb (length line) line_limit) 11 0 _ (λ e. lists.too_long)
-      (either_in (is_seven m) (ask_parities p line 0 next) next (parities_in p line 0 next h) h)
+      ask_in (carries table m) 58 0 _ (λ e. lists.not_carried)
+      (ask_in (leb (length line) line_limit) 11 0 _ (λ e. lists.too_long)
+      (either_in (is_seven m) (ask_parities p line 0 next) next (parities_in p line 0 next h) h))
 
 abbrev pub FramedNumbered : Framed → Type 0
 FramedNumbered = FramedIn refusals
 
-pub framed_numbered : (m : Method) (p : Parity) (line : List ℕ) → FramedNumbered (framed m p line)
-framed_numbered m p line =
-    framed_in {ns = refusals}
-    (record { too_long = refl; wrong_parity = refl; no_start = refl; out_of_place = refl; no_end = refl; check_long = refl; too_many = refl })
+pub framed_numbered : (table : CodeTable) (m : Method) (p : Parity) (line : List ℕ) → FramedNumbered (framed table m p line)
+framed_numbered table m p line =
+    framed_in table {ns = refusals}
+    (record { not_carried = refl; too_long = refl; wrong_parity = refl; no_start = refl; out_of_place = refl; no_end = refl; check_long = refl; too_many = refl })
     m p line (λ e. refl)
 
 -- ---- a line of method 1 is never short of its check, which has no bytes
 
 abbrev others : List ℕ
-others = 11 ∷ 12 ∷ 13 ∷ 14 ∷ 15 ∷ 53 ∷ 17 ∷ []
+others = 58 ∷ 11 ∷ 12 ∷ 13 ∷ 14 ∷ 15 ∷ 53 ∷ 17 ∷ []
 
 -- the walk's marks are no more than the line's bytes
-framed-others : (p : Parity) (line : List ℕ) → FramedIn others (framed method.Parity p line)
-framed-others p line =
+framed-others : (table : CodeTable) (p : Parity) (line : List ℕ) → FramedIn others (framed table method.Parity p line)
+framed-others table p line =
     let seven = is_seven method.Parity in
-    let needed = length (walk seven line 0 Start).marks + check_length method.Parity in
-    framed_in {ns = others}
-    (record { too_long = refl; wrong_parity = refl; no_start = refl; out_of_place = refl; no_end = refl; check_long = refl; too_many = refl })
+    let needed = length (walk table seven line 0 Start).marks + check_length method.Parity in
+    framed_in table {ns = others}
+    (record { not_carried = refl; too_long = refl; wrong_parity = refl; no_start = refl; out_of_place = refl; no_end = refl; check_long = refl; too_many = refl })
     method.Parity p line
-    (λ e. absurd (omega (arith, marks-within seven line 0 Start, check_length_lem method.Parity, leb-false needed (length line) e)))
+    (λ e. absurd (omega (arith, marks-within table seven line 0 Start, check_length_lem method.Parity, leb-false needed (length line) e)))
 
 -- ---- 18, 54 and 19
 
@@ -145,7 +147,7 @@ by_number : (a : ReadAnswer) → AnswerNumbered a → AcceptsByNumber a
 by_number (taken b) h = (λ u. refl, λ u. tt)
 by_number (refusal n v) h = only_last refusals 19 n refl h
 
-module _ (m : Method) (p : Parity) (line : List ℕ) (room : ℕ) where
+module _ (table : CodeTable) (m : Method) (p : Parity) (line : List ℕ) (room : ℕ) where
   check_numbered : (w : Framed) → FramedNumbered w → AnswerNumbered (ask_check m p line room w)
   check_numbered (unframed n v) h = listed h
   check_numbered (found ks f e) h =
@@ -154,13 +156,13 @@ module _ (m : Method) (p : Parity) (line : List ℕ) (room : ℕ) where
       let computed = check_of m p (counted ks line) in
       answer_numbered (same (first_asked m received) (first_asked m computed)) (same (then_asked m received) (then_asked m computed)) (leb (output_length b) room) b
 
-  pub accepts_by_number : AcceptsByNumber (read_block m p line room)
+  pub accepts_by_number : AcceptsByNumber (read_block table m p line room)
   unfolding read_block
-  accepts_by_number = by_number (read_block m p line room) (check_numbered (framed m p line) (framed_numbered m p line))
+  accepts_by_number = by_number (read_block table m p line room) (check_numbered (framed table m p line) (framed_numbered table m p line))
 
-pub never_short : (p : Parity) (line : List ℕ) (room : ℕ) → number_of (read_block method.Parity p line room) ≡ 52 → ⊥
+pub never_short : (table : CodeTable) (p : Parity) (line : List ℕ) (room : ℕ) → number_of (read_block table method.Parity p line room) ≡ 52 → ⊥
 unfolding read_block
-never_short p line room = go (framed method.Parity p line) (framed-others p line)
+never_short table p line room = go (framed table method.Parity p line) (framed-others table p line)
   where
     checked : (first second fits : Bool) (b : Parts) → number_of (answer first second fits b) ≡ 52 → ⊥
     checked true true true b e = omega arith

@@ -15,6 +15,7 @@ use Rattle.block.specs.declared.Method.{Method}
 use Rattle.block.specs.declared.Method.TheVariants as method
 use Rattle.block.specs.declared.Parity.{Parity}
 use Rattle.block.specs.declared.Mark.{Mark}
+use Rattle.block.specs.Signs.{CodeTable}
 use Rattle.block.specs.Characters.{is_seven, is_odd}
 use Rattle.block.specs.Marks.{is_counted, sift, counted, check_bytes}
 use Rattle.block.specs.Check.{row_sums, matrix_check, check_of}
@@ -30,12 +31,12 @@ use Rattle.guarantees.proofs.Blocks.Columns.{EqualParities, equal_parities, dist
 
 -- ---- method 1
 
-pub distance-parity : (p : Parity) → AtLeast 2 (blocks method.Parity p)
-distance-parity p A B t =
+pub distance-parity : (table : CodeTable) (p : Parity) → AtLeast 2 (blocks table method.Parity p)
+distance-parity table p A B t =
     let s = t.same_framing in
-    let o = one_framing method.Parity p A B s in
-    let ha = (all-passed method.Parity p A o.a).parities refl in
-    let hb = (all-passed method.Parity p B o.b).parities refl in
+    let o = one_framing table method.Parity p A B s in
+    let ha = (all-passed table method.Parity p A o.a).parities refl in
+    let hb = (all-passed table method.Parity p B o.b).parities refl in
     omega (
       arith,
       length-differing (bits_of A) (bits_of B),
@@ -92,43 +93,43 @@ sums-zero p c b e =
 abbrev pub checked_of : List Mark → List ℕ → List ℕ
 checked_of ks line = counted ks line ++ check_bytes ks line
 
-module _ (m : Method) (p : Parity) (line : List ℕ) (r : Found m p line) where
+module _ (table : CodeTable) (m : Method) (p : Parity) (line : List ℕ) (r : Found table m p line) where
   checked-right : is_seven m ≡ true → ParitiesRight p (checked_of r.marks line)
   checked-right seven =
-      let h = (all-passed m p line r).parities seven in
+      let h = (all-passed table m p line r).parities seven in
       right-append p (counted r.marks line) (check_bytes r.marks line) (right-sift p is_counted r.marks line h)
       (right-drop p (length r.marks) line h)
 
-  pub length-checked_of : length (checked_bits m p line) ≡ 8 * length (checked_of r.marks line)
-  length-checked_of = ap length (checked_bits_lem m p line r) ∙ length-bits_of (checked_of r.marks line)
+  pub length-checked_of : length (checked_bits table m p line) ≡ 8 * length (checked_of r.marks line)
+  length-checked_of = ap length (checked_bits_lem table m p line r) ∙ length-bits_of (checked_of r.marks line)
 
-pub record TwoChecked (m : Method) (p : Parity) (A B : List ℕ) (x y : List ℕ) : Type 0 where
-  pub bits-x : checked_bits m p A ≡ bits_of x
-  pub bits-y : checked_bits m p B ≡ bits_of y
+pub record TwoChecked (table : CodeTable) (m : Method) (p : Parity) (A B : List ℕ) (x y : List ℕ) : Type 0 where
+  pub bits-x : checked_bits table m p A ≡ bits_of x
+  pub bits-y : checked_bits table m p B ≡ bits_of y
   pub size : length x ≡ length y
   pub pairs : EqualParities x y
   pub unequal : bits_of x ≡ bits_of y → ⊥
-  pub distance-checked : distance (blocks m p) A B ≡ distance_of x y
+  pub distance-checked : distance (blocks table m p) A B ≡ distance_of x y
 
-pub two_checked : (m : Method) → is_seven m ≡ true → (p : Parity) (A B : List ℕ) → TwoAccepted (blocks m p) A B → (o : OneFraming m p A B)
-    → TwoChecked m p A B (checked_of o.a.marks A) (checked_of o.b.marks B)
-two_checked m seven p A B t o =
+pub two_checked : (table : CodeTable) (m : Method) → is_seven m ≡ true → (p : Parity) (A B : List ℕ) → TwoAccepted (blocks table m p) A B → (o : OneFraming table m p A B)
+    → TwoChecked table m p A B (checked_of o.a.marks A) (checked_of o.b.marks B)
+two_checked table m seven p A B t o =
     let x = checked_of o.a.marks A in
     let y = checked_of o.b.marks B in
     let s = t.same_framing in
-    let ex : checked_bits m p A ≡ bits_of x = checked_bits_lem m p A o.a in
-    let ey : checked_bits m p B ≡ bits_of y = checked_bits_lem m p B o.b in
+    let ex : checked_bits table m p A ≡ bits_of x = checked_bits_lem table m p A o.a in
+    let ey : checked_bits table m p B ≡ bits_of y = checked_bits_lem table m p B o.b in
     let size : length x ≡ length y =
-    omega (arith, length-checked_of m p A o.a, length-checked_of m p B o.b, length-checked (blocks m p) (block_bridge m p) A B s) in
+    omega (arith, length-checked_of table m p A o.a, length-checked_of table m p B o.b, length-checked (blocks table m p) (block_bridge table m p) A B s) in
     record {
       bits-x = ex;
       bits-y = ey;
       size = size;
-      pairs = equal_parities p x y size (checked-right m p A o.a seven) (checked-right m p B o.b seven);
-      unequal = λ e. t.unequal (equal_where_checked (blocks m p) (block_bridge m p) A B s (ex ∙ e ∙ sym ey));
+      pairs = equal_parities p x y size (checked-right table m p A o.a seven) (checked-right table m p B o.b seven);
+      unequal = λ e. t.unequal (equal_where_checked (blocks table m p) (block_bridge table m p) A B s (ex ∙ e ∙ sym ey));
       distance-checked =
-          (differ_where_checked (blocks m p) (block_bridge m p) A B s).1
-          ∙ length-differing (checked_bits m p A) (checked_bits m p B) ∙ ap₂ (λ a b. weight (xor_bits a b)) ex ey;
+          (differ_where_checked (blocks table m p) (block_bridge table m p) A B s).1
+          ∙ length-differing (checked_bits table m p A) (checked_bits table m p B) ∙ ap₂ (λ a b. weight (xor_bits a b)) ex ey;
     }
 
 -- ---- method 2
@@ -138,30 +139,30 @@ one_character p c [] l e = absurd (omega arith)
 one_character p c (b ∷ []) l e = sums-zero p c b (sym (bits_of_one b) ∙ e)
 one_character p c (b ∷ d ∷ r) l e = absurd (omega arith)
 
-checked_zero : (p : Parity) (line : List ℕ) (r : Found method.Matrix p line) → Accepted method.Matrix p line → row_sums (checked_of r.marks line) ≡ zeros 7
+checked_zero : (table : CodeTable) (p : Parity) (line : List ℕ) (r : Found table method.Matrix p line) → Accepted table method.Matrix p line → row_sums (checked_of r.marks line) ≡ zeros 7
 unfolding check_of
-checked_zero p line r acc =
+checked_zero table p line r acc =
     one_character p (counted r.marks line) (check_bytes r.marks line)
-    (length-drop (length r.marks) line ∙ omega (arith, (all-passed method.Matrix p line r).closes, check_length_lem method.Matrix))
-    ((accepted_right method.Matrix p line r).0 acc)
+    (length-drop (length r.marks) line ∙ omega (arith, (all-passed table method.Matrix p line r).closes, check_length_lem method.Matrix))
+    ((accepted_right table method.Matrix p line r).0 acc)
 
-module _ (p : Parity) (A B : List ℕ) (t : TwoAccepted (blocks method.Matrix p) A B) where
-  o : OneFraming method.Matrix p A B
-  o = one_framing method.Matrix p A B t.same_framing
+module _ (table : CodeTable) (p : Parity) (A B : List ℕ) (t : TwoAccepted (blocks table method.Matrix p) A B) where
+  o : OneFraming table method.Matrix p A B
+  o = one_framing table method.Matrix p A B t.same_framing
 
-  two : TwoChecked method.Matrix p A B (checked_of o.a.marks A) (checked_of o.b.marks B)
-  two = two_checked method.Matrix refl p A B t o
+  two : TwoChecked table method.Matrix p A B (checked_of o.a.marks A) (checked_of o.b.marks B)
+  two = two_checked table method.Matrix refl p A B t o
 
   sums : row_sums (checked_of o.a.marks A) ≡ row_sums (checked_of o.b.marks B)
-  sums = checked_zero p A o.a t.accepted.0 ∙ sym (checked_zero p B o.b t.accepted.1)
+  sums = checked_zero table p A o.a t.accepted.0 ∙ sym (checked_zero table p B o.b t.accepted.1)
 
   four : 4 ≤ distance_of (checked_of o.a.marks A) (checked_of o.b.marks B)
   four = at_least_four two.pairs sums two.unequal
 
-pub distance_matrix : (p : Parity) → AtLeast 4 (blocks method.Matrix p)
-distance_matrix p A B t = omega (arith, (two p A B t).distance-checked, four p A B t)
+pub distance_matrix : (table : CodeTable) (p : Parity) → AtLeast 4 (blocks table method.Matrix p)
+distance_matrix table p A B t = omega (arith, (two table p A B t).distance-checked, four table p A B t)
 
-pub burst_matrix : (p : Parity) → NoBurst 9 (blocks method.Matrix p)
-burst_matrix p A B t b h u =
-    let w = two p A B t in
-    omega (arith, four p A B t, at_most_two w.pairs w.size (sums p A B t) b h (rw (w.bits-x, w.bits-y) at u))
+pub burst_matrix : (table : CodeTable) (p : Parity) → NoBurst 9 (blocks table method.Matrix p)
+burst_matrix table p A B t b h u =
+    let w = two table p A B t in
+    omega (arith, four table p A B t, at_most_two w.pairs w.size (sums table p A B t) b h (rw (w.bits-x, w.bits-y) at u))

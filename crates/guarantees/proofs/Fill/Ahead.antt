@@ -13,8 +13,8 @@ use Rattle.block.specs.declared.Mark.{Mark}
 use Rattle.block.specs.declared.Mark.TheVariants.{LeftOut}
 use Rattle.block.specs.declared.Field.{Field}
 use Rattle.block.specs.declared.Field.TheVariants.{Start}
-use Rattle.block.specs.Signs.{SYN}
-use Rattle.block.specs.Characters.{is_seven, sent}
+use Rattle.block.specs.Signs.{CodeTable}
+use Rattle.block.specs.Characters.{is_seven, carries, sent}
 use Rattle.block.specs.Walk.{judge}
 use Rattle.block.specs.Marks.{is_counted, LeftOutByte, left_out_if, left_out}
 use Rattle.block.specs.Read.{found, framed, framing, framing_by, framing_of, ReadAnswer, taken, refusal, ask_check, read_block}
@@ -74,60 +74,60 @@ left_out-ahead (suc k) at b ks line =
 
 -- ---- lines
 
-module _ (m : Method) (p : Parity) where
-  same_answer : (k : ℕ) (line : List ℕ) (room : ℕ) → length (fill m p k ++ line) ≤ line_limit
-      → read_block m p (fill m p k ++ line) room ≡ moved_answer k (read_block m p line room)
-  same_answer zero line room l = moved_none (read_block m p line room)
+module _ (table : CodeTable) (m : Method) (p : Parity) where
+  same_answer : (k : ℕ) (line : List ℕ) (room : ℕ) → length (fill table m p k ++ line) ≤ line_limit
+      → read_block table m p (fill table m p k ++ line) room ≡ moved_answer k (read_block table m p line room)
+  same_answer zero line room l = moved_none (read_block table m p line room)
   same_answer (suc k) line room l =
-      read_moved m p (fill m p k ++ line) room l ∙ ap (moved_answer 1) (same_answer k line room (omega arith))
-      ∙ moved_more k (read_block m p line room)
+      read_moved table m p (fill table m p k ++ line) room l ∙ ap (moved_answer 1) (same_answer k line room (omega arith))
+      ∙ moved_more k (read_block table m p line room)
 
-  stays_accepted : (k : ℕ) (line : List ℕ) → length (fill m p k ++ line) ≤ line_limit → Accepted m p line → Accepted m p (fill m p k ++ line)
-  stays_accepted k line l acc room = rw (same_answer k line room l) (accepts_moved k (read_block m p line room) (acc room))
+  stays_accepted : (k : ℕ) (line : List ℕ) → length (fill table m p k ++ line) ≤ line_limit → Accepted table m p line → Accepted table m p (fill table m p k ++ line)
+  stays_accepted k line l acc room = rw (same_answer k line room l) (accepts_moved k (read_block table m p line room) (acc room))
 
-  marks-ahead : (k : ℕ) (line : List ℕ) {ks : List Mark} {f : Field} {e : EndSign} → length (fill m p k ++ line) ≤ line_limit
-      → framed m p line ≡ found ks f e → framed m p (fill m p k ++ line) ≡ found (replicate k LeftOut ++ ks) f e
+  marks-ahead : (k : ℕ) (line : List ℕ) {ks : List Mark} {f : Field} {e : EndSign} → length (fill table m p k ++ line) ≤ line_limit
+      → framed table m p line ≡ found ks f e → framed table m p (fill table m p k ++ line) ≡ found (replicate k LeftOut ++ ks) f e
   marks-ahead zero line l q = q
-  marks-ahead (suc k) line l q = framed-moved m p (fill m p k ++ line) l ∙ ap moved_framed (marks-ahead k line (omega arith) q)
+  marks-ahead (suc k) line l q = framed-moved table m p (fill table m p k ++ line) l ∙ ap moved_framed (marks-ahead k line (omega arith) q)
 
-  in_framing : (k : ℕ) (line : List ℕ) (os : List LeftOutByte) → length (fill m p k ++ line) ≤ line_limit → framing_of m p line ≡ framing os
-      → framing_of m p (fill m p k ++ line) ≡ framing (left_out 0 (replicate k LeftOut) (fill m p k) ++ map (moved_byte k) os)
+  in_framing : (k : ℕ) (line : List ℕ) (os : List LeftOutByte) → length (fill table m p k ++ line) ≤ line_limit → framing_of table m p line ≡ framing os
+      → framing_of table m p (fill table m p k ++ line) ≡ framing (left_out 0 (replicate k LeftOut) (fill table m p k) ++ map (moved_byte k) os)
   unfolding framing_of
-  in_framing k line os l q = go (found_framing m p line (λ n. let z : ◌≡◌ {A = ℕ} 0 1 = cc in omega arith))
+  in_framing k line os l q = go (found_framing table m p line (λ n. let z : ◌≡◌ {A = ℕ} 0 1 = cc in omega arith))
     where
-      go : Found m p line
-          → framing_of m p (fill m p k ++ line) ≡ framing (left_out 0 (replicate k LeftOut) (fill m p k) ++ map (moved_byte k) os)
+      go : Found table m p line
+          → framing_of table m p (fill table m p k ++ line) ≡ framing (left_out 0 (replicate k LeftOut) (fill table m p k) ++ map (moved_byte k) os)
       go r =
           let whole : framing (left_out 0 r.marks line) ≡ framing os = sym (ap (framing_by line) r.is_found) ∙ q in
           let all : left_out 0 r.marks line ≡ os = cc in
-          ap (framing_by (fill m p k ++ line)) (marks-ahead k line l r.is_found)
-          ∙ ap framing (left_out-ahead k 0 (sent (is_seven m) p SYN) r.marks line
-          ∙ ap (λ z. left_out 0 (replicate k LeftOut) (fill m p k) ++ z) (left_out-moved k 0 r.marks line ∙ ap (map (moved_byte k)) all))
+          ap (framing_by (fill table m p k ++ line)) (marks-ahead k line l r.is_found)
+          ∙ ap framing (left_out-ahead k 0 (sent (is_seven m) p table.SYN) r.marks line
+          ∙ ap (λ z. left_out 0 (replicate k LeftOut) (fill table m p k) ++ z) (left_out-moved k 0 r.marks line ∙ ap (map (moved_byte k)) all))
 
-  dropped : (k : ℕ) (line : List ℕ) → without_fill m (fill m p k ++ line) ≡ without_fill m line
+  dropped : (k : ℕ) (line : List ℕ) → without_fill table m (fill table m p k ++ line) ≡ without_fill table m line
   unfolding without_fill
   dropped zero line = refl
   dropped (suc k) line =
       let seven = is_seven m in
-      let rest = fill m p k ++ line in
-      let behind = unfilled_behind (unfilled seven rest) rest in
-      ap (λ s. cons_if (not (is_fill Start s (first_sign seven rest))) (sent seven p SYN) (behind (judge seven Start s))) (syn_sign seven p)
+      let rest = fill table m p k ++ line in
+      let behind = unfilled_behind (unfilled table seven rest) rest in
+      ap (λ s. cons_if (not (is_fill Start s (first_sign table seven rest))) (sent seven p table.SYN) (behind (judge seven Start s))) (syn_sign table seven p)
       ∙ dropped k line
 
-  syn_alone : (k room : ℕ) → k ≤ line_limit → read_block m p (fill m p k) room ≡ refusal 13 0
+  syn_alone : (k room : ℕ) → carries table m ≡ true → k ≤ line_limit → read_block table m p (fill table m p k) room ≡ refusal 13 0
   unfolding read_block
-  syn_alone k room l =
-      let line = append-nil (fill m p k) in
-      ap (λ z. read_block m p z room) (sym line)
-      ∙ same_answer k [] room (omega (arith, ap length line, length-replicate k (sent (is_seven m) p SYN)))
-      ∙ ap (λ w. moved_answer k (ask_check m p [] room w)) (empty_line m p)
+  syn_alone k room c l =
+      let line = append-nil (fill table m p k) in
+      ap (λ z. read_block table m p z room) (sym line)
+      ∙ same_answer k [] room (omega (arith, ap length line, length-replicate k (sent (is_seven m) p table.SYN)))
+      ∙ ap (λ w. moved_answer k (ask_check m p [] room w)) (empty_line table m p c)
 
-pub leading_fill : (m : Method) (p : Parity) (k : ℕ) → LeadingFill m p k
-leading_fill m p k =
+pub leading_fill : (table : CodeTable) (m : Method) (p : Parity) (k : ℕ) → LeadingFill table m p k
+leading_fill table m p k =
     record {
-      same_answer = same_answer m p k;
-      stays_accepted = stays_accepted m p k;
-      in_framing = in_framing m p k;
-      dropped = dropped m p k;
-      syn_alone = syn_alone m p k;
+      same_answer = same_answer table m p k;
+      stays_accepted = stays_accepted table m p k;
+      in_framing = in_framing table m p k;
+      dropped = dropped table m p k;
+      syn_alone = syn_alone table m p k;
     }

@@ -1,6 +1,6 @@
 -- Lines taken before fill was left out ahead of the start read as before: behind the start both walks are one. Assumes nothing.
 use mathlib.Core.Path.{◌≡◌, refl, ap, ◌∙◌}
-use Prim.Native.Nat.{ℕ, ◌+◌, ◌≤◌}
+use Prim.Native.Nat.{ℕ, ◌+◌}
 use native.Mathlib.Omega.{arith}
 use mathlib.Core.Bool.{Bool, true, false, cond}
 use mathlib.Core.List.{List, [], ◌∷◌}
@@ -12,8 +12,8 @@ use Rattle.block.specs.declared.Field.{Field}
 use Rattle.block.specs.declared.Field.TheVariants.{Start, StartDle, Header, HeaderDle, Text, Clear, ClearDle}
 use Rattle.block.specs.declared.Judged.{Judged}
 use Rattle.block.specs.declared.Judged.TheVariants.{Is, Ends, NoStart, OutOfPlace, DleOutOfPlace}
-use Rattle.block.specs.Signs.{Sign, soh, stx, etx, dle, syn, etb, us, other, sign_of}
-use Rattle.block.specs.Characters.{is_seven, character, parity_right}
+use Rattle.block.specs.Signs.{CodeTable, Sign, soh, stx, etx, dle, syn, etb, us, other, sign_of}
+use Rattle.block.specs.Characters.{is_seven, carries, character, parity_right}
 use Rattle.block.specs.Walk.{Walked, ahead, in_start, in_start_dle, in_header, in_header_dle, in_text, in_clear, in_clear_dle, judge, onward, walk}
 use Rattle.block.specs.Read.{Framed, found, unframed, ask, ask_parities, ask_walk, framed, ask_check, read_block}
 use Rattle.block.specs.Limits.{line_limit}
@@ -81,23 +81,23 @@ onward-same go before h f at NoStart s = refl
 onward-same go before h f at OutOfPlace s = refl
 onward-same go before h f at DleOutOfPlace s = refl
 
-walk_same : (seven : Bool) (line : List ℕ) (at : ℕ) (f : Field) → Behind f → walk seven line at f ≡ walk_before seven line at f
-walk_same seven [] at f h = refl
-walk_same seven (b ∷ rest) at f h =
-    let s = sign_of (character seven b) in
-    let before = walk_before seven rest (at + 1) in
-    onward-same (walk seven rest (at + 1)) before (walk_same seven rest (at + 1)) f at (judge seven f s) (stays seven f s h)
+walk_same : (table : CodeTable) (seven : Bool) (line : List ℕ) (at : ℕ) (f : Field) → Behind f → walk table seven line at f ≡ walk_before table seven line at f
+walk_same table seven [] at f h = refl
+walk_same table seven (b ∷ rest) at f h =
+    let s = sign_of table (character seven b) in
+    let before = walk_before table seven rest (at + 1) in
+    onward-same (walk table seven rest (at + 1)) before (walk_same table seven rest (at + 1)) f at (judge seven f s) (stays seven f s h)
     ∙ ap (onward before f at) (judge-same seven f s h)
 
-start-same : (seven : Bool) (line : List ℕ) → (first_sign seven line ≡ syn → ⊥) → walk seven line 0 Start ≡ walk_before seven line 0 Start
-start-same seven [] h = refl
-start-same seven (b ∷ rest) h = go (sign_of (character seven b)) h
+start-same : (table : CodeTable) (seven : Bool) (line : List ℕ) → (first_sign table seven line ≡ syn → ⊥) → walk table seven line 0 Start ≡ walk_before table seven line 0 Start
+start-same table seven [] h = refl
+start-same table seven (b ∷ rest) h = go (sign_of table (character seven b)) h
   where
-    behind : (j : Judged) → Stays j → onward (walk seven rest 1) Start 0 j ≡ onward (walk_before seven rest 1) Start 0 j
-    behind = onward-same (walk seven rest 1) (walk_before seven rest 1) (walk_same seven rest 1) Start 0
+    behind : (j : Judged) → Stays j → onward (walk table seven rest 1) Start 0 j ≡ onward (walk_before table seven rest 1) Start 0 j
+    behind = onward-same (walk table seven rest 1) (walk_before table seven rest 1) (walk_same table seven rest 1) Start 0
 
     go : (s : Sign) → (s ≡ syn → ⊥)
-        → onward (walk seven rest 1) Start 0 (in_start seven s) ≡ onward (walk_before seven rest 1) Start 0 (in_start_before seven s)
+        → onward (walk table seven rest 1) Start 0 (in_start seven s) ≡ onward (walk_before table seven rest 1) Start 0 (in_start_before seven s)
     go soh h = behind (in_start seven soh) tt
     go stx h = behind (in_start seven stx) tt
     go etx h = refl
@@ -111,16 +111,16 @@ start-same seven (b ∷ rest) h = go (sign_of (character seven b)) h
 
 abbrev Refused : Framed → Type 0
 Refused (found ks f e) = ⊥
-Refused (unframed n v) = n ≤ 13
+Refused (unframed n v) = n ≡ 19 → ⊥
 
-ask_refused : (holds : Bool) (n v : ℕ) (next : Framed) → n ≤ 13 → Refused next → Refused (ask holds n v next)
+ask_refused : (holds : Bool) (n v : ℕ) (next : Framed) → (n ≡ 19 → ⊥) → Refused next → Refused (ask holds n v next)
 ask_refused true n v next l h = h
 ask_refused false n v next l h = l
 
 parities_refused : (p : Parity) (line : List ℕ) (at : ℕ) (next : Framed) → Refused next → Refused (ask_parities p line at next)
 parities_refused p [] at next h = h
 parities_refused p (b ∷ line) at next h =
-    ask_refused (parity_right p b) 12 at (ask_parities p line (at + 1) next) (omega arith) (parities_refused p line (at + 1) next h)
+    ask_refused (parity_right p b) 12 at (ask_parities p line (at + 1) next) (λ q. omega arith) (parities_refused p line (at + 1) next h)
 
 either_refused : (t : Bool) (a b : Framed) → Refused a → Refused b → Refused (cond t a b)
 either_refused true a b h k = h
@@ -128,40 +128,43 @@ either_refused false a b h k = k
 
 not_accepted : (m : Method) (p : Parity) (line : List ℕ) (room : ℕ) (w : Framed) → Refused w → Accepts (ask_check m p line room w) → ⊥
 not_accepted m p line room (found ks f e) h a = h
-not_accepted m p line room (unframed n v) h a = omega arith
+not_accepted m p line room (unframed n v) h a = h a
 
-module _ (m : Method) (p : Parity) where
+module _ (table : CodeTable) (m : Method) (p : Parity) where
   -- the questions up to 17, by the walk over a line
   abbrev framed_by : List ℕ → Walked → Framed
-  framed_by line w = ask (leb (length line) line_limit) 11 0 (cond (is_seven m) (ask_parities p line 0 (ask_walk m line w)) (ask_walk m line w))
+  framed_by line w =
+      ask (carries table m) 58 0
+      (ask (leb (length line) line_limit) 11 0 (cond (is_seven m) (ask_parities p line 0 (ask_walk m line w)) (ask_walk m line w)))
 
   walk_refused : (line : List ℕ) (w : Walked) → Refused (ask_walk m line w) → Refused (framed_by line w)
   walk_refused line w h =
       let next = ask_walk m line w in
-      ask_refused (leb (length line) line_limit) 11 0 _ (omega arith)
-      (either_refused (is_seven m) (ask_parities p line 0 next) next (parities_refused p line 0 next h) h)
+      ask_refused (carries table m) 58 0 _ (λ q. omega arith)
+      (ask_refused (leb (length line) line_limit) 11 0 _ (λ q. omega arith)
+      (either_refused (is_seven m) (ask_parities p line 0 next) next (parities_refused p line 0 next h) h))
 
-  syn_refused : (line : List ℕ) → BeginsWithSyn m line → Refused (framed_before m p line)
+  syn_refused : (line : List ℕ) → BeginsWithSyn table m line → Refused (framed_before table m p line)
   unfolding framed_before
   syn_refused [] e = absurd (let z : ◌≡◌ {A = ℕ} 0 1 = cc in omega arith)
-  syn_refused (b ∷ rest) e = walk_refused (b ∷ rest) (walk_before (is_seven m) (b ∷ rest) 0 Start) (rw e (omega arith))
+  syn_refused (b ∷ rest) e = walk_refused (b ∷ rest) (walk_before table (is_seven m) (b ∷ rest) 0 Start) (rw e (λ q. omega arith))
 
-  framed-same : (line : List ℕ) → (BeginsWithSyn m line → ⊥) → framed m p line ≡ framed_before m p line
+  framed-same : (line : List ℕ) → (BeginsWithSyn table m line → ⊥) → framed table m p line ≡ framed_before table m p line
   unfolding framed framed_before
-  framed-same line h = ap (framed_by line) (start-same (is_seven m) line h)
+  framed-same line h = ap (framed_by line) (start-same table (is_seven m) line h)
 
-  same_answer : (line : List ℕ) (room : ℕ) → (BeginsWithSyn m line → ⊥) → read_block m p line room ≡ read_before m p line room
+  same_answer : (line : List ℕ) (room : ℕ) → (BeginsWithSyn table m line → ⊥) → read_block table m p line room ≡ read_before table m p line room
   unfolding read_block read_before
   same_answer line room h = ap (ask_check m p line room) (framed-same line h)
 
-  without_syn : (line : List ℕ) (room : ℕ) → Accepts (read_before m p line room) → BeginsWithSyn m line → ⊥
+  without_syn : (line : List ℕ) (room : ℕ) → Accepts (read_before table m p line room) → BeginsWithSyn table m line → ⊥
   unfolding read_before
-  without_syn line room a e = not_accepted m p line room (framed_before m p line) (syn_refused line e) a
+  without_syn line room a e = not_accepted m p line room (framed_before table m p line) (syn_refused line e) a
 
-pub read_as_before : (m : Method) (p : Parity) → ReadAsBefore m p
-read_as_before m p =
+pub read_as_before : (table : CodeTable) (m : Method) (p : Parity) → ReadAsBefore table m p
+read_as_before table m p =
     record {
-      same_answer = same_answer m p;
-      without_syn = without_syn m p;
-      taken_before = λ line room a. same_answer m p line room (without_syn m p line room a);
+      same_answer = same_answer table m p;
+      without_syn = without_syn table m p;
+      taken_before = λ line room a. same_answer table m p line room (without_syn table m p line room a);
     }

@@ -5,7 +5,7 @@ use native.Mathlib.Numerals.{add-one}
 use native.Mathlib.Omega.{arith}
 use mathlib.Core.Bool.{Bool, true, false, cond}
 use mathlib.Core.List.{List, [], ◌∷◌}
-use lib.Dec.{lit<, leb, leb-suc-suc}
+use lib.Dec.{leb, leb-suc-suc}
 use lib.ListN.{length}
 use borrow.Author.Tests.{le-leb}
 use Rattle.bits.specs.Strings.{same}
@@ -17,14 +17,15 @@ use Rattle.block.specs.declared.Field.{Field}
 use Rattle.block.specs.declared.Field.TheVariants.{Start, StartDle, Header, HeaderDle, Text, Clear, ClearDle}
 use Rattle.block.specs.declared.Judged.{Judged}
 use Rattle.block.specs.declared.Judged.TheVariants.{Is, Ends, NoStart, OutOfPlace, DleOutOfPlace}
-use Rattle.block.specs.Signs.{Sign, soh, stx, etx, dle, syn, etb, us, other, sign_of, SYN}
-use Rattle.block.specs.Characters.{is_seven, character, parity_right, sent}
+use Rattle.block.specs.Signs.{CodeTable, Sign, soh, stx, etx, dle, syn, etb, us, other, sign_of}
+use Rattle.block.specs.Characters.{is_seven, carries, character, parity_right, sent}
 use Rattle.block.specs.Walk.{Stop, ended, refused, Walked, ahead, halt, cut, in_start, judge, onward, walk}
 use Rattle.block.specs.Marks.{counted, check_bytes}
 use Rattle.block.specs.Check.{check_of, check_length}
 use Rattle.block.specs.Read.{Framed, found, unframed, ask, ask_parities, ask_end, ask_walk, framed, Parts, parts_of, output_length, first_asked, then_asked, ask_check, read_block}
 use Rattle.block.specs.Limits.{counted_limit, line_limit}
 use Rattle.block.proofs.Start.{syn_ahead}
+use Rattle.block.proofs.Tables.{value-below, sign_syn}
 use Rattle.guarantees.specs.LeadingFill.{moved_value, moved_answer}
 use Rattle.guarantees.proofs.Blocks.Numbers.{answer}
 use Rattle.guarantees.proofs.Written.Walk.{low-back}
@@ -56,27 +57,27 @@ onward-moved go next h f at l NoStart = refl
 onward-moved go next h f at l OutOfPlace = refl
 onward-moved go next h f at l DleOutOfPlace = let e : at + 1 - 1 ≡ at - 1 + 1 = omega arith in ap (λ n. halt (refused 14 n)) e
 
-walk-moved : (seven : Bool) (line : List ℕ) (at : ℕ) (f : Field) → 1 ≤ at → walk seven line (at + 1) f ≡ moved_walk (walk seven line at f)
-walk-moved seven [] at f l = cut_moved f
-walk-moved seven (b ∷ rest) at f l =
-    onward-moved (walk seven rest (at + 1)) (walk seven rest (at + 1 + 1)) (λ g. walk-moved seven rest (at + 1) g (omega arith)) f at l
-    (judge seven f (sign_of (character seven b)))
+walk-moved : (table : CodeTable) (seven : Bool) (line : List ℕ) (at : ℕ) (f : Field) → 1 ≤ at → walk table seven line (at + 1) f ≡ moved_walk (walk table seven line at f)
+walk-moved table seven [] at f l = cut_moved f
+walk-moved table seven (b ∷ rest) at f l =
+    onward-moved (walk table seven rest (at + 1)) (walk table seven rest (at + 1 + 1)) (λ g. walk-moved table seven rest (at + 1) g (omega arith)) f at l
+    (judge seven f (sign_of table (character seven b)))
 
 -- from place 0 on: before the first byte stands no DLE that could be out of place
-start-moved : (seven : Bool) (line : List ℕ) → walk seven line 1 Start ≡ moved_walk (walk seven line 0 Start)
-start-moved seven [] = refl
-start-moved seven (b ∷ rest) = go (sign_of (character seven b))
+start-moved : (table : CodeTable) (seven : Bool) (line : List ℕ) → walk table seven line 1 Start ≡ moved_walk (walk table seven line 0 Start)
+start-moved table seven [] = refl
+start-moved table seven (b ∷ rest) = go (sign_of table (character seven b))
   where
-    on : (g : Field) → ahead LeftOut (walk seven rest 2 g) ≡ moved_walk (ahead LeftOut (walk seven rest 1 g))
-    on g = ap (ahead LeftOut) (walk-moved seven rest 1 g (omega arith))
+    on : (g : Field) → ahead LeftOut (walk table seven rest 2 g) ≡ moved_walk (ahead LeftOut (walk table seven rest 1 g))
+    on g = ap (ahead LeftOut) (walk-moved table seven rest 1 g (omega arith))
 
-    at_dle : (t : Bool) → onward (walk seven rest 2) Start 1 (cond t NoStart (Is LeftOut StartDle))
-        ≡ moved_walk (onward (walk seven rest 1) Start 0 (cond t NoStart (Is LeftOut StartDle)))
+    at_dle : (t : Bool) → onward (walk table seven rest 2) Start 1 (cond t NoStart (Is LeftOut StartDle))
+        ≡ moved_walk (onward (walk table seven rest 1) Start 0 (cond t NoStart (Is LeftOut StartDle)))
     at_dle true = refl
     at_dle false = on StartDle
 
-    go : (s : Sign) → onward (walk seven rest 2) Start 1 (in_start seven s)
-        ≡ moved_walk (onward (walk seven rest 1) Start 0 (in_start seven s))
+    go : (s : Sign) → onward (walk table seven rest 2) Start 1 (in_start seven s)
+        ≡ moved_walk (onward (walk table seven rest 1) Start 0 (in_start seven s))
     go soh = on Header
     go stx = on Text
     go etx = refl
@@ -127,16 +128,15 @@ end_moved m b line w = go w.stop
         (ask-moved short 52 (length ks) (ask long 53 (length ks) counted-few))
 
 -- SYN is read where SYN is sent
-pub syn_sign : (seven : Bool) (p : Parity) → sign_of (character seven (sent seven p SYN)) ≡ syn
-unfolding sign_of
-syn_sign seven p = ap sign_of (low-back seven p SYN (lit< tt))
+pub syn_sign : (table : CodeTable) (seven : Bool) (p : Parity) → sign_of table (character seven (sent seven p table.SYN)) ≡ syn
+syn_sign table seven p = ap (sign_of table) (low-back seven p table.SYN (omega (arith, value-below table 4 refl))) ∙ sign_syn table
 
-either_moved : (seven : Bool) (p : Parity) (line : List ℕ) (next : Framed)
-    → cond seven (ask_parities p (sent seven p SYN ∷ line) 0 (moved_framed next)) (moved_framed next)
+either_moved : (table : CodeTable) (seven : Bool) (p : Parity) (line : List ℕ) (next : Framed)
+    → cond seven (ask_parities p (sent seven p table.SYN ∷ line) 0 (moved_framed next)) (moved_framed next)
     ≡ moved_framed (cond seven (ask_parities p line 0 next) next)
 unfolding sent
-either_moved true p line next = rw (right-character p SYN) (parities_moved p line 0 next)
-either_moved false p line next = refl
+either_moved table true p line next = rw (right-character p table.SYN) (parities_moved p line 0 next)
+either_moved table false p line next = refl
 
 -- ---- 18, 54 and 19
 
@@ -157,26 +157,26 @@ check-moved m p b line room (found ks f e) =
 
 -- ---- the line
 
-module _ (m : Method) (p : Parity) (line : List ℕ) where
+module _ (table : CodeTable) (m : Method) (p : Parity) (line : List ℕ) where
   abbrev longer : List ℕ
-  longer = sent (is_seven m) p SYN ∷ line
+  longer = sent (is_seven m) p table.SYN ∷ line
 
   abbrev walked : Walked
-  walked = walk (is_seven m) line 0 Start
+  walked = walk table (is_seven m) line 0 Start
 
-  walked-moved : ask_walk m longer (walk (is_seven m) longer 0 Start) ≡ moved_framed (ask_walk m line walked)
+  walked-moved : ask_walk m longer (walk table (is_seven m) longer 0 Start) ≡ moved_framed (ask_walk m line walked)
   walked-moved =
-      ap (ask_walk m longer) (syn_ahead (is_seven m) (sent (is_seven m) p SYN) line 0 (syn_sign (is_seven m) p) ∙ ap (ahead LeftOut) (start-moved (is_seven m) line))
-      ∙ end_moved m (sent (is_seven m) p SYN) line walked
+      ap (ask_walk m longer) (syn_ahead table (is_seven m) (sent (is_seven m) p table.SYN) line 0 (syn_sign table (is_seven m) p) ∙ ap (ahead LeftOut) (start-moved table (is_seven m) line))
+      ∙ end_moved m (sent (is_seven m) p table.SYN) line walked
 
-  pub framed-moved : length longer ≤ line_limit → framed m p longer ≡ moved_framed (framed m p line)
+  pub framed-moved : length longer ≤ line_limit → framed table m p longer ≡ moved_framed (framed table m p line)
   unfolding framed
   framed-moved l =
       let h : length line ≤ line_limit = omega arith in
       rw (le-leb (length longer) line_limit l, le-leb (length line) line_limit h)
-      (ap (λ next. cond (is_seven m) (ask_parities p longer 0 next) next) walked-moved
-      ∙ either_moved (is_seven m) p line (ask_walk m line walked))
+      (ap (ask (carries table m) 58 0) (ap (λ next. cond (is_seven m) (ask_parities p longer 0 next) next) walked-moved
+      ∙ either_moved table (is_seven m) p line (ask_walk m line walked)) ∙ ask-moved (carries table m) 58 0 _)
 
-  pub read_moved : (room : ℕ) → length longer ≤ line_limit → read_block m p longer room ≡ moved_answer 1 (read_block m p line room)
+  pub read_moved : (room : ℕ) → length longer ≤ line_limit → read_block table m p longer room ≡ moved_answer 1 (read_block table m p line room)
   unfolding read_block
-  read_moved room l = ap (ask_check m p longer room) (framed-moved l) ∙ check-moved m p _ line room (framed m p line)
+  read_moved room l = ap (ask_check m p longer room) (framed-moved l) ∙ check-moved m p _ line room (framed table m p line)

@@ -14,6 +14,7 @@ use Rattle.block.specs.declared.EndSign.{EndSign}
 use Rattle.block.specs.declared.Mark.{Mark}
 use Rattle.block.specs.declared.Field.{Field}
 use Rattle.block.specs.declared.Field.TheVariants.{Start}
+use Rattle.block.specs.Signs.{CodeTable}
 use Rattle.block.specs.Characters.{is_seven}
 use Rattle.block.specs.Marks.{counted, check_bytes, header, text, has_inner, shape_of}
 use Rattle.block.specs.Check.{check_of}
@@ -38,36 +39,36 @@ bytes_drop (suc n) (b ∷ bs) h = bytes_drop n bs h.1
 
 -- ---- the line
 
-module _ (m : Method) (p : Parity) (line : List ℕ) (ks : List Mark) (f : Field) (e : EndSign) (bytes : Bytes line) (w : Passed m p line ks f e)
-    (right : CheckRight m p ks line) (b : BlockLeft (is_seven m) p false f e ks line (unfilled (is_seven m) line Start)) where
-  counted_again : counted ks line ≡ counted_bytes m p b.kind e b.head b.body
+module _ (table : CodeTable) (m : Method) (p : Parity) (line : List ℕ) (ks : List Mark) (f : Field) (e : EndSign) (bytes : Bytes line) (w : Passed table m p line ks f e)
+    (right : CheckRight m p ks line) (b : BlockLeft table (is_seven m) p false f e ks line (unfilled table (is_seven m) line Start)) where
+  counted_again : counted ks line ≡ counted_bytes table m p b.kind e b.head b.body
   unfolding counted_bytes
   counted_again = b.is_left.sent-count
 
-  check_again : pack (check_of m p (counted_bytes m p b.kind e b.head b.body)) ≡ check_bytes ks line
+  check_again : pack (check_of m p (counted_bytes table m p b.kind e b.head b.body)) ≡ check_bytes ks line
   check_again =
       ap (λ bs. pack (check_of m p bs)) (sym counted_again) ∙ ap pack (sym right) ∙ pack-bits_of (check_bytes ks line) (bytes_drop (length ks) line bytes)
 
-  line_again : line_of m p b.kind e b.head b.body ≡ without_fill m line
+  line_again : line_of table m p b.kind e b.head b.body ≡ without_fill table m line
   unfolding line_of framed_bytes without_fill
   line_again = rw check_again (sym b.is_left.sent_whole)
 
-  written_again : (space : ℕ) → length (without_fill m line) ≤ space
-      → write_block m p (shape_of (has_inner ks) f) e (header (is_seven m) ks line) (text (is_seven m) ks line) space ≡ written (without_fill m line)
+  written_again : (space : ℕ) → length (without_fill table m line) ≤ space
+      → write_block table m p (shape_of (has_inner ks) f) e (header (is_seven m) ks line) (text (is_seven m) ks line) space ≡ written (without_fill table m line)
   written_again space fits =
-      let few : counted_length b.kind b.head b.body ≤ counted_limit =
-      omega (arith, w.few, ap length counted_again, length-counted m p b.kind e b.head b.body) in
-      let l : length (line_of m p b.kind e b.head b.body) ≤ space = rw line_again fits in
+      let few : counted_length table b.kind b.head b.body ≤ counted_limit =
+      omega (arith, w.few, ap length counted_again, length-counted table m p b.kind e b.head b.body) in
+      let l : length (line_of table m p b.kind e b.head b.body) ≤ space = rw line_again fits in
       rw (b.is_left.is_inner_lem, b.is_shape, b.is_left.is_header_lem, b.is_left.is_text_lem)
-      (passes m p b.kind e b.head b.body space b.allowed few l ∙ ap written line_again)
+      (passes table m p b.kind e b.head b.body space w.carried b.allowed few l ∙ ap written line_again)
 
 pub read_writes_back : ReadWritesBack
-read_writes_back m p line b room space bytes h fits =
-    let t = taken_passed m p line room h in
+read_writes_back table m p line b room space bytes h fits =
+    let t = taken_passed table m p line room h in
     let r = t.framing in
-    let w = passed m p line r.marks r.field r.end r.is_found in
+    let w = passed table m p line r.marks r.field r.end r.is_found in
     let again = resent (is_seven m) p line bytes w.parities in
-    let left = block_left (is_seven m) p false line again 0 (ap (λ w. w.stop) w.walked) in
-    ap (λ (b : Parts). write_block m p b.shape b.end b.header b.text space) (sym t.parts)
-    ∙ written_again m p line r.marks r.field r.end bytes w t.check-right
-    (subst (λ ks. BlockLeft (is_seven m) p false r.field r.end ks line (unfilled (is_seven m) line Start)) (ap (λ w. w.marks) w.walked) left) space fits
+    let left = block_left table (is_seven m) p false line again 0 (ap (λ w. w.stop) w.walked) in
+    ap (λ (b : Parts). write_block table m p b.shape b.end b.header b.text space) (sym t.parts)
+    ∙ written_again table m p line r.marks r.field r.end bytes w t.check-right
+    (subst (λ ks. BlockLeft table (is_seven m) p false r.field r.end ks line (unfilled table (is_seven m) line Start)) (ap (λ w. w.marks) w.walked) left) space fits

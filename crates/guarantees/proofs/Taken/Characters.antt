@@ -13,7 +13,7 @@ use Rattle.bits.specs.Differences.{Each}
 use Rattle.division.proofs.Order.{all, all_at}
 use Rattle.block.specs.declared.Parity.{Parity}
 use Rattle.block.specs.declared.Parity.TheVariants.{Even, Odd}
-use Rattle.block.specs.Signs.{Sign, soh, stx, etx, dle, syn, etb, us, other, sign_of, SOH, STX, ETX, DLE, SYN, ETB, US}
+use Rattle.block.specs.Signs.{CodeTable, Sign, soh, stx, etx, dle, syn, etb, us, other, sign_of}
 use Rattle.block.specs.Characters.{character, is_odd, with_parity, sent}
 use Rattle.block.specs.Write.{is_free}
 use Rattle.block.proofs.Passed.{ParitiesRight}
@@ -52,37 +52,37 @@ resent false p (x ∷ line) b r = (refl, resent false p line b.1 (λ e. absurd (
 -- ---- the character of a sign
 
 -- what the sign of a character says of it
-abbrev pub OfSign : Sign → ℕ → Type 0
-OfSign soh c = c ≡ SOH
-OfSign stx c = c ≡ STX
-OfSign etx c = c ≡ ETX
-OfSign dle c = c ≡ DLE
-OfSign syn c = c ≡ SYN
-OfSign etb c = c ≡ ETB
-OfSign us c = c ≡ US
-OfSign other c = eqb c DLE ≡ false
+abbrev pub OfSign : CodeTable → Sign → ℕ → Type 0
+OfSign table soh c = c ≡ table.SOH
+OfSign table stx c = c ≡ table.STX
+OfSign table etx c = c ≡ table.ETX
+OfSign table dle c = c ≡ table.DLE
+OfSign table syn c = c ≡ table.SYN
+OfSign table etb c = c ≡ table.ETB
+OfSign table us c = c ≡ table.US
+OfSign table other c = eqb c table.DLE ≡ false
 
-else_sign : (c v : ℕ) (s r : Sign) → (c ≡ v → OfSign s c) → (eqb c v ≡ false → OfSign r c) → OfSign (cond (eqb c v) s r) c
-else_sign c v s r h k = go (eqb c v) refl
+else_sign : (table : CodeTable) (c v : ℕ) (s r : Sign) → (c ≡ v → OfSign table s c) → (eqb c v ≡ false → OfSign table r c) → OfSign table (cond (eqb c v) s r) c
+else_sign table c v s r h k = go (eqb c v) refl
   where
-    go : (t : Bool) → eqb c v ≡ t → OfSign (cond t s r) c
+    go : (t : Bool) → eqb c v ≡ t → OfSign table (cond t s r) c
     go true e = h (eqb-true c v e)
     go false e = k e
 
-pub of_sign : (c : ℕ) → OfSign (sign_of c) c
+pub of_sign : (table : CodeTable) (c : ℕ) → OfSign table (sign_of table c) c
 unfolding sign_of
-of_sign c =
-    else_sign c SOH soh _ (λ e. e) (λ _.
-    else_sign c STX stx _ (λ e. e) (λ _.
-    else_sign c ETX etx _ (λ e. e) (λ _.
-    else_sign c DLE dle _ (λ e. e) (λ d.
-    else_sign c SYN syn _ (λ e. e) (λ _.
-    else_sign c ETB etb _ (λ e. e) (λ _.
-    else_sign c US us other (λ e. e) (λ _. d)))))))
+of_sign table c =
+    else_sign table c table.SOH soh _ (λ e. e) (λ _.
+    else_sign table c table.STX stx _ (λ e. e) (λ _.
+    else_sign table c table.ETX etx _ (λ e. e) (λ _.
+    else_sign table c table.DLE dle _ (λ e. e) (λ d.
+    else_sign table c table.SYN syn _ (λ e. e) (λ _.
+    else_sign table c table.ETB etb _ (λ e. e) (λ _.
+    else_sign table c table.US us other (λ e. e) (λ _. d)))))))
 
 -- ---- characters that are no signs
 
-pub other_free : (seven : Bool) (b : ℕ) → sign_of (character seven b) ≡ other → is_free seven (character seven b) ≡ true
+pub other_free : (table : CodeTable) (seven : Bool) (b : ℕ) → sign_of table (character seven b) ≡ other → is_free table seven (character seven b) ≡ true
 unfolding is_free character
-other_free true b e = rw (e, lt-ltb (b % 128) 0x80 (omega arith))
-other_free false b e = rw e
+other_free table true b e = rw (e, lt-ltb (b % 128) 0x80 (omega arith))
+other_free table false b e = rw e

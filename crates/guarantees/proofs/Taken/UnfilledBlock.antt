@@ -12,7 +12,7 @@ use Rattle.block.specs.declared.Mark.{Mark}
 use Rattle.block.specs.declared.Mark.TheVariants.{LeftOut, HeaderByte, End}
 use Rattle.block.specs.declared.Field.{Field}
 use Rattle.block.specs.declared.Field.TheVariants.{Header}
-use Rattle.block.specs.Signs.{SOH, end_byte}
+use Rattle.block.specs.Signs.{CodeTable, end_byte}
 use Rattle.block.specs.Walk.{ended}
 use Rattle.block.specs.Marks.{shape_of}
 use Rattle.block.specs.Write.{is_clear, has_header, has_text, start_signs, inner_signs, is_free}
@@ -28,7 +28,7 @@ or-true : (t : Bool) → t || true ≡ true
 or-true true = refl
 or-true false = refl
 
-module _ (seven : Bool) (p : Parity) where
+module _ (table : CodeTable) (seven : Bool) (p : Parity) where
   -- a line walked over up to the end sign e in field g; `started`: from behind SOH on
   pub record BlockLeft (started : Bool) (g : Field) (e : EndSign) (ks : List Mark) (line left : List ℕ) : Type 0 where
     pub kind : Shape
@@ -36,14 +36,14 @@ module _ (seven : Bool) (p : Parity) where
     pub body : List ℕ
     pub inner : Bool
     pub is_shape : shape_of inner g ≡ kind
-    pub is_left : Unfilled seven p ks line left (cond started [] (start_signs kind) ++ (head ++ (inner_signs kind ++ text_bytes (is_clear kind) e body)))
-        (head ++ (inner_signs kind ++ (body ++ end_byte e ∷ []))) head body inner
+    pub is_left : Unfilled seven p ks line left (cond started [] (start_signs table kind) ++ (head ++ (inner_signs table kind ++ text_bytes table (is_clear kind) e body)))
+        (head ++ (inner_signs table kind ++ (body ++ end_byte table e ∷ []))) head body inner
     pub has_header_lem : started ≡ true → has_header kind ≡ true
-    pub allowed : Allowed seven kind head body
+    pub allowed : Allowed table seven kind head body
 
   -- ---- a byte of the header
 
-  pub header_end : {g : Field} {d e : EndSign} {b : ℕ} (rest : List ℕ) → Carries seven p b (end_byte e) → ended Header d ≡ ended g e
+  pub header_end : {g : Field} {d e : EndSign} {b : ℕ} (rest : List ℕ) → Carries seven p b (end_byte table e) → ended Header d ≡ ended g e
       → BlockLeft true g e (End ∷ []) (b ∷ rest) (b ∷ rest)
   header_end {g = g} rest c h =
       let q : g ≡ Header = cc in
@@ -59,7 +59,7 @@ module _ (seven : Bool) (p : Parity) where
       }
 
   pub header-byte : {g : Field} {e : EndSign} {ks : List Mark} {line left : List ℕ} {b c : ℕ} → Carries seven p b c
-      → BlockLeft true g e ks line left → is_free seven c ≡ true → BlockLeft true g e (HeaderByte ∷ ks) (b ∷ line) (b ∷ left)
+      → BlockLeft true g e ks line left → is_free table seven c ≡ true → BlockLeft true g e (HeaderByte ∷ ks) (b ∷ line) (b ∷ left)
   header-byte {c = c} d h f =
       record {
         kind = h.kind;
@@ -97,7 +97,7 @@ module _ (seven : Bool) (p : Parity) where
 
   -- ---- the start: SOH before the header
 
-  pub soh_before : {g : Field} {e : EndSign} {ks : List Mark} {line left : List ℕ} {b : ℕ} → Carries seven p b SOH → BlockLeft true g e ks line left
+  pub soh_before : {g : Field} {e : EndSign} {ks : List Mark} {line left : List ℕ} {b : ℕ} → Carries seven p b table.SOH → BlockLeft true g e ks line left
       → BlockLeft false g e (LeftOut ∷ ks) (b ∷ line) (b ∷ left)
   soh_before d h =
       record {
@@ -114,9 +114,9 @@ module _ (seven : Bool) (p : Parity) where
   -- ---- the signs before the text: the start of the line, or behind SOH an inner start
 
   pub text_block : (s : Shape) {g : Field} {e : EndSign} {ks : List Mark} {line left body : List ℕ} → has_text s ≡ true → shape_of (has_header s) g ≡ s
-      → not (seven && is_clear s) ≡ true → Free seven (cond (is_clear s) [] body)
-      → Unfilled seven p ks line left (cond (has_header s) [] (start_signs s) ++ (inner_signs s ++ text_bytes (is_clear s) e body))
-      (inner_signs s ++ (body ++ end_byte e ∷ [])) [] body (has_header s) → BlockLeft (has_header s) g e ks line left
+      → not (seven && is_clear s) ≡ true → Free table seven (cond (is_clear s) [] body)
+      → Unfilled seven p ks line left (cond (has_header s) [] (start_signs table s) ++ (inner_signs table s ++ text_bytes table (is_clear s) e body))
+      (inner_signs table s ++ (body ++ end_byte table e ∷ [])) [] body (has_header s) → BlockLeft (has_header s) g e ks line left
   text_block s {body = body} t q k f u =
       record {
         kind = s;

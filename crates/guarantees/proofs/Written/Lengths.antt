@@ -19,7 +19,7 @@ use Rattle.block.specs.declared.Parity.{Parity}
 use Rattle.block.specs.declared.Shape.{Shape}
 use Rattle.block.specs.declared.Shape.TheVariants as shape
 use Rattle.block.specs.declared.EndSign.{EndSign}
-use Rattle.block.specs.Signs.{DLE}
+use Rattle.block.specs.Signs.{CodeTable}
 use Rattle.block.specs.Check.{check_of}
 use Rattle.block.specs.Write.{is_clear, start_signs, counted_bytes, counted_length}
 use Rattle.block.specs.Limits.{counted_limit}
@@ -48,31 +48,31 @@ check-back m p bs =
 
 -- ---- the line: the count bounds its length
 
-clear_short : (bs : List ℕ) → length (marked_clear bs) ≤ 2 * length bs
-clear_short [] = omega arith
-clear_short (b ∷ bs) = go (eqb b DLE) (clear_short bs)
+clear_short : (table : CodeTable) (bs : List ℕ) → length (marked_clear table bs) ≤ 2 * length bs
+clear_short table [] = omega arith
+clear_short table (b ∷ bs) = go (eqb b table.DLE) (clear_short table bs)
   where
-    go : (t : Bool) → length (marked_clear bs) ≤ 2 * length bs → length (marked_twice t b (marked_clear bs)) ≤ 2 * length (b ∷ bs)
+    go : (t : Bool) → length (marked_clear table bs) ≤ 2 * length bs → length (marked_twice t b (marked_clear table bs)) ≤ 2 * length (b ∷ bs)
     go true h = omega arith
     go false h = omega arith
 
-text_short : (clear : Bool) (e : EndSign) (body : List ℕ) → length (marked_text clear e body) ≤ 2 * length body + 2
-text_short true e body = simp length-append (omega (arith, clear_short body))
-text_short false e body = simp (length-append, length-map) (omega arith)
+text_short : (table : CodeTable) (clear : Bool) (e : EndSign) (body : List ℕ) → length (marked_text table clear e body) ≤ 2 * length body + 2
+text_short table true e body = simp length-append (omega (arith, clear_short table body))
+text_short table false e body = simp (length-append, length-map) (omega arith)
 
-start_short : (s : Shape) → length (start_signs s) ≤ 2
-start_short shape.Header = omega arith
-start_short shape.Text = omega arith
-start_short shape.HeaderText = omega arith
-start_short shape.ClearText = omega arith
-start_short shape.HeaderClearText = omega arith
+start_short : (table : CodeTable) (s : Shape) → length (start_signs table s) ≤ 2
+start_short table shape.Header = omega arith
+start_short table shape.Text = omega arith
+start_short table shape.HeaderText = omega arith
+start_short table shape.ClearText = omega arith
+start_short table shape.HeaderClearText = omega arith
 
-module _ (s : Shape) (e : EndSign) (head body : List ℕ) where
-  pub marks_short : counted_length s head body ≤ counted_limit → length (marks_of (marked_line s e head body)) ≤ 8194
+module _ (table : CodeTable) (s : Shape) (e : EndSign) (head body : List ℕ) where
+  pub marks_short : counted_length table s head body ≤ counted_limit → length (marks_of (marked_line table s e head body)) ≤ 8194
   unfolding counted_length
-  marks_short h = simp (length-map, length-append) (omega (arith, start_short s, text_short (is_clear s) e body))
+  marks_short h = simp (length-map, length-append) (omega (arith, start_short table s, text_short table (is_clear s) e body))
 
-pub length-counted : (m : Method) (p : Parity) (s : Shape) (e : EndSign) (head body : List ℕ)
-    → length (counted_bytes m p s e head body) ≡ counted_length s head body
+pub length-counted : (table : CodeTable) (m : Method) (p : Parity) (s : Shape) (e : EndSign) (head body : List ℕ)
+    → length (counted_bytes table m p s e head body) ≡ counted_length table s head body
 unfolding counted_length counted_bytes
-length-counted m p s e head body = simp (length-map, length-append) (omega arith)
+length-counted table m p s e head body = simp (length-map, length-append) (omega arith)

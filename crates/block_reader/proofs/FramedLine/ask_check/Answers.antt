@@ -5,6 +5,7 @@ use native.Mathlib.Omega.{arith}
 use lib.ListN.{length, length-drop, drop}
 use lib.Seq.{take_all}
 use Rattle.bits.specs.Bytes.{bits_of}
+use Rattle.block.specs.Signs.{table_of}
 use Rattle.block.specs.Characters.{is_seven}
 use Rattle.block.specs.Read.{ask_same}
 use Rattle.block_check.specs.Numbers.{start_of, number_after, check_from}
@@ -20,7 +21,7 @@ returns c next =
     let f = x.segments in
     let line = x.line.now in
     let number =
-    folded (is_seven m) f line x.ordered (number_after m) (number_append m) (start_of m) c.start_of.ensures c.header.ensures c.add_segment-header.ensures
+    folded (table_of x.link.code) (is_seven m) f line x.ordered (number_after m) (number_append m) (start_of m) c.start_of.ensures c.header.ensures c.add_segment-header.ensures
     c.add_run-signs.ensures c.text.ensures c.add_segment-text.ensures c.add_one-counted.ensures in
     c.ask_check.ensures next
     ∙ ap₂ (λ l n. ask_same m (bits_of l) (check_from m x.link.parity n) next) (take_all (length line - f.after) (drop f.after line) (omega (arith, length-drop f.after line))) number

@@ -1,6 +1,7 @@
 -- `copy_kept` meets its contract: the next byte, kept or not, and none. Assumes nothing.
 use Rattle.std.proofs.Common.{false, refl, sym, ◌∙◌, arith}
 use lib.ListN.{length-map}
+use Rattle.block.specs.Signs.{table_of}
 use Rattle.block.specs.Characters.{character}
 use Rattle.block_framing.specs.Framings.{kept_bytes}
 use Rattle.block_segments.proofs.Copying.{copied, all_kept, stored}
@@ -28,4 +29,4 @@ returns c =
     let a = c.args in
     let l = c.loop-b in
     let whole = stored l.invariant.left (all_kept (character a.seven) l.keeping a.part.now l.b-index l.invariant.left c.loop-b-test.false) in
-    (whole.0 ∙ length-map (kept_bytes a.clear a.seven false a.part.now) (character a.seven), whole.1)
+    (whole.0 ∙ length-map (kept_bytes (table_of a.code) a.clear a.seven false a.part.now) (character a.seven), whole.1)

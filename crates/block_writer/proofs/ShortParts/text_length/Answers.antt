@@ -3,6 +3,7 @@ use Rattle.std.proofs.Common.{rules, ◌≡◌, ap, ◌∙◌, ◌+◌, length, 
 use Rattle.std.specs.List.{sum_by}
 use Rattle.std.proofs.lemmas.Iterator.{YieldsList-from_slice}
 use Rattle.std.proofs.lemmas.Iterator.Adapters.{fits_from_length, at_most_from_yields_List}
+use Rattle.block.specs.Signs.{koi7, table_of}
 use Rattle.block.specs.Write as rule
 use Rattle.block.specs.Limits.{counted_limit}
 use Rattle.block_line.specs.Line.{text_bytes}
@@ -17,12 +18,12 @@ pub overflow_add-result : goal.overflow_add-result
 overflow_add-result c =
     let text = c.args.self.parts.now.text.now in
     let n : c.sum.result ≡ sum_by (λ b. cond (nat_eq b 16) 1 0) text = search rules in
-    omega (arith, n, escaped_count text, escaped_short text, c.args.self.text_small)
+    omega (arith, n, escaped_count koi7 text, escaped_short koi7 text, c.args.self.text_small)
 
 pub returns : goal.returns
 unfolding text_bytes
-returns c =
+returns c code =
     let text = c.args.self.parts.now.text.now in
     let n : c.sum.result ≡ sum_by (λ b. cond (nat_eq b 16) 1 0) text = search rules in
     let clear : rule.is_clear c.args.self.parts.now.shape ≡ true = search rules in
-    rw clear (ap (λ k. length text + k) n ∙ escaped_count text)
+    rw clear (ap (λ k. length text + k) n ∙ escaped_count (table_of code) text)

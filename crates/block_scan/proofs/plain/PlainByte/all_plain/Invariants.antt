@@ -3,9 +3,10 @@
 use Rattle.std.proofs.Common.{◌≡◌, true}
 use mathlib.Core.Bool.{not, ◌&&◌}
 use lib.Dec.{eqb}
+use Rattle.block.specs.Signs.{koi7}
 use Rattle.block.specs.Scan.{AllPass}
 use Rattle.block_scan.specs.Tests.{is_plain_byte}
 use Rattle.block_scan.proofs.plain.PlainByte.all_plain.Given as goal
 
 abbrev pub invariant-loop-b : goal.invariant-loop-b
-invariant-loop-b l = (l.below && not (eqb l.least 0)) ≡ true → AllPass (is_plain_byte l.self.seven l.self.low) l.sixteen 0 l.b-index
+invariant-loop-b l = (l.below && not (eqb l.least 0)) ≡ true → AllPass (is_plain_byte koi7 l.self.seven l.self.low) l.sixteen 0 l.b-index
