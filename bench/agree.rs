@@ -133,6 +133,22 @@ impl Agreement<'_> {
         });
     }
 
+    /// A text as it is sent and a line as it is read, with a d about as large.
+    fn interleave_round(&mut self, random: &mut Random, longest: usize) {
+        let length = random.below(longest);
+        let bytes = random.bytes(length);
+        let d = random.below(bytes.len() + 3);
+        let room = (bytes.len() + random.below(4)).saturating_sub(1);
+        let what = || format!("interleave {d} {room} {bytes:02X?}");
+        self.same(&what, room, &|calls, out, _| {
+            calls.interleave(d, &bytes, out)
+        });
+        let what = || format!("deinterleave {d} {room} {bytes:02X?}");
+        self.same(&what, room, &|calls, out, _| {
+            calls.deinterleave(d, &bytes, out)
+        });
+    }
+
     fn block_round(&mut self, random: &mut Random, longest: usize) {
         let link = lines::link(random, Code::Koi7);
         let parts = lines::parts(random, link, longest);
@@ -247,6 +263,7 @@ pub fn run(peers: &[&'static Calls]) -> u64 {
         agreement.block_round(&mut random, if long { 4_200 } else { 14 });
         agreement.frame_round(&mut random, if long { 4_200 } else { 12 });
         agreement.sender_round(&mut random);
+        agreement.interleave_round(&mut random, if long { 4_200 } else { 70 });
     }
     agreement.limits(&mut random);
     agreement.numbers();

@@ -22,6 +22,7 @@ type Submit = unsafe extern "C" fn(
 type Acknowledge = unsafe extern "C" fn(
     u8, u8, *mut Station, *const u8, usize, u8, *mut usize,
 ) -> u32;
+type Interleave = unsafe extern "C" fn(usize, *const u8, usize, *mut u8, usize) -> u32;
 type Check16 = unsafe extern "C" fn(*const u8, usize) -> u16;
 type Check32 = unsafe extern "C" fn(*const u8, usize) -> u32;
 
@@ -34,6 +35,8 @@ pub struct Calls {
     receive: Receive,
     submit: Submit,
     acknowledge: Acknowledge,
+    interleave: Interleave,
+    deinterleave: Interleave,
     check_3: Check16,
     check_4: Check16,
     check_5: Check16,
@@ -145,6 +148,18 @@ impl Calls {
         unsafe { (self.acknowledge)(n, w, station, store, room, number, value) }
     }
 
+    #[inline(always)]
+    pub fn interleave(&self, d: usize, text: &[u8], out: &mut [u8]) -> u32 {
+        let (room, out) = (out.len(), out.as_mut_ptr());
+        unsafe { (self.interleave)(d, text.as_ptr(), text.len(), out, room) }
+    }
+
+    #[inline(always)]
+    pub fn deinterleave(&self, d: usize, line: &[u8], out: &mut [u8]) -> u32 {
+        let (room, out) = (out.len(), out.as_mut_ptr());
+        unsafe { (self.deinterleave)(d, line.as_ptr(), line.len(), out, room) }
+    }
+
     /// The check of a method 3 to 6.
     #[inline(always)]
     pub fn check(&self, method: u8, content: &[u8]) -> u32 {
@@ -160,10 +175,11 @@ impl Calls {
     }
 }
 
-/// Declares the eleven functions of a linked library and gathers them.
+/// Declares the thirteen functions of a linked library and gathers them.
 macro_rules! linked {
     ($calls:ident, $name:literal, $read_block:ident, $write_block:ident, $read_frame:ident, $write_frame:ident,
-     $receive:ident, $submit:ident, $acknowledge:ident, $check_3:ident, $check_4:ident, $check_5:ident, $check_6:ident) => {
+     $receive:ident, $submit:ident, $acknowledge:ident, $interleave:ident, $deinterleave:ident,
+     $check_3:ident, $check_4:ident, $check_5:ident, $check_6:ident) => {
         #[rustfmt::skip]
         extern "C" {
             fn $read_block(_: u8, _: u8, _: u8, _: *const u8, _: usize, _: *mut u8, _: usize, _: *mut usize) -> u32;
@@ -175,6 +191,8 @@ macro_rules! linked {
             fn $submit(_: u8, _: u8, _: *mut Station, _: *mut u8, _: usize,
                 _: *const u8, _: usize, _: *mut usize) -> u32;
             fn $acknowledge(_: u8, _: u8, _: *mut Station, _: *const u8, _: usize, _: u8, _: *mut usize) -> u32;
+            fn $interleave(_: usize, _: *const u8, _: usize, _: *mut u8, _: usize) -> u32;
+            fn $deinterleave(_: usize, _: *const u8, _: usize, _: *mut u8, _: usize) -> u32;
             fn $check_3(_: *const u8, _: usize) -> u16;
             fn $check_4(_: *const u8, _: usize) -> u16;
             fn $check_5(_: *const u8, _: usize) -> u16;
@@ -189,6 +207,8 @@ macro_rules! linked {
             receive: $receive,
             submit: $submit,
             acknowledge: $acknowledge,
+            interleave: $interleave,
+            deinterleave: $deinterleave,
             check_3: $check_3,
             check_4: $check_4,
             check_5: $check_5,
@@ -199,10 +219,12 @@ macro_rules! linked {
 
 #[rustfmt::skip]
 linked!(LIBRARY, "library", corridor_read_block, corridor_write_block, corridor_read_frame, corridor_write_frame,
-    corridor_receive, corridor_submit, corridor_acknowledge, corridor_check_3, corridor_check_4, corridor_check_5, corridor_check_6);
+    corridor_receive, corridor_submit, corridor_acknowledge, corridor_interleave, corridor_deinterleave,
+    corridor_check_3, corridor_check_4, corridor_check_5, corridor_check_6);
 #[rustfmt::skip]
 linked!(PLAIN_C, "C", plain_read_block, plain_write_block, plain_read_frame, plain_write_frame,
-    plain_receive, plain_submit, plain_acknowledge, plain_check_3, plain_check_4, plain_check_5, plain_check_6);
+    plain_receive, plain_submit, plain_acknowledge, plain_interleave, plain_deinterleave,
+    plain_check_3, plain_check_4, plain_check_5, plain_check_6);
 
 pub static RUST: Calls = Calls {
     name: "Rust",
@@ -213,6 +235,8 @@ pub static RUST: Calls = Calls {
     receive: shell::receive,
     submit: shell::submit,
     acknowledge: shell::acknowledge,
+    interleave: shell::interleave,
+    deinterleave: shell::deinterleave,
     check_3: shell::check_3,
     check_4: shell::check_4,
     check_5: shell::check_3,
@@ -231,16 +255,19 @@ extern "C" {
         _: usize,
         _: *mut usize,
     ) -> u32;
+    fn copy_interleave(_: usize, _: *const u8, _: usize, _: *mut u8, _: usize) -> u32;
     fn zlib_found() -> i32;
     fn zlib_check_6(content: *const u8, length: usize) -> u32;
     fn libdeflate_found() -> i32;
     fn libdeflate_check_6(content: *const u8, length: usize) -> u32;
 }
 
-/// The copy of a submission alone.
+/// The copy alone, of a submission and of a text.
 pub static MEMCPY: Calls = Calls {
     name: "memcpy",
     submit: copy_submit,
+    interleave: copy_interleave,
+    deinterleave: copy_interleave,
     ..PLAIN_C
 };
 

@@ -201,6 +201,26 @@ pub fn acknowledge() -> Case {
     })
 }
 
+/// Texts in rows of d.
+pub fn interleave(random: &mut Random, d: usize, length: usize) -> Case {
+    let texts = several(length, || random.bytes(length));
+    let mut out = vec![0; length];
+    in_turn(texts, move |calls, text| {
+        black_box(calls.interleave(d, text, &mut out));
+        black_box(&out);
+    })
+}
+
+/// Lines of rows of d.
+pub fn deinterleave(random: &mut Random, d: usize, length: usize) -> Case {
+    let lines = several(length, || random.bytes(length));
+    let mut out = vec![0; length];
+    in_turn(lines, move |calls, line| {
+        black_box(calls.deinterleave(d, line, &mut out));
+        black_box(&out);
+    })
+}
+
 pub fn check(random: &mut Random, method: u8, length: usize) -> Case {
     in_turn(
         several(length, || random.bytes(length)),

@@ -29,6 +29,7 @@ use table::{Row, Table};
 const SHORT: [usize; 4] = [16, 64, 256, 4_096];
 const LONG: [usize; 5] = [16, 64, 256, 4_096, 65_536];
 const STORED: [usize; 2] = [16, 4_095];
+const SPREAD: [usize; 3] = [64, 4_096, 65_536];
 
 const MEANING: &str =
     "A ratio is the time of the proved call divided by the peer's: smaller is better. Times are the
@@ -160,6 +161,27 @@ fn submissions(random: &mut Random, word: &str) -> Table {
     }
 }
 
+fn interleaving(random: &mut Random, word: &str) -> Table {
+    let mut rows = Rows::of(word);
+    for (copy, peer) in [("", &BOTH[..]), (" against memcpy", &COPY[..])] {
+        for d in [3, 8, 64] {
+            let name = format!("interleave   rows of {d}{copy}");
+            rows.beside(peer, &name, &SPREAD, |length| {
+                inputs::interleave(random, d, length)
+            });
+            let name = format!("deinterleave rows of {d}{copy}");
+            rows.beside(peer, &name, &SPREAD, |length| {
+                inputs::deinterleave(random, d, length)
+            });
+        }
+    }
+    Table {
+        title: "interleaving, by bytes of text",
+        lengths: &SPREAD,
+        rows: rows.rows,
+    }
+}
+
 fn checks(random: &mut Random, word: &str, found: Found) -> Table {
     let mut rows = Rows::of(word);
     for method in 3..=6 {
@@ -197,6 +219,7 @@ fn main() -> ExitCode {
         frames_of(random, &word),
         numbers(&word),
         submissions(random, &word),
+        interleaving(random, &word),
         checks(random, &word, found),
     ];
     tables.retain(|table| !table.rows.is_empty());

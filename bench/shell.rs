@@ -112,6 +112,27 @@ pub unsafe extern "C" fn acknowledge(
     sent(peer_fast::acknowledge((n, w), &mut *station, room, number), value)
 }
 
+/// Number of an answer without a value.
+fn told(answer: Result<(), Refusal>) -> u32 {
+    answer.map_or_else(|refusal| refusal.number, |()| 0)
+}
+
+#[rustfmt::skip]
+pub unsafe extern "C" fn interleave(
+    d: usize, text: *const u8, length: usize, out: *mut u8, room: usize,
+) -> u32 {
+    let text = slice::from_raw_parts(text, length);
+    told(peer_fast::interleave(d, text, slice::from_raw_parts_mut(out, room)))
+}
+
+#[rustfmt::skip]
+pub unsafe extern "C" fn deinterleave(
+    d: usize, line: *const u8, length: usize, out: *mut u8, room: usize,
+) -> u32 {
+    let line = slice::from_raw_parts(line, length);
+    told(peer_fast::deinterleave(d, line, slice::from_raw_parts_mut(out, room)))
+}
+
 pub unsafe extern "C" fn check_3(content: *const u8, length: usize) -> u16 {
     peer_fast::check_3(slice::from_raw_parts(content, length))
 }

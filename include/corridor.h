@@ -1,5 +1,6 @@
 /*
- * corridor.h - blocks, frames and their checks by GOST 28082-89.
+ * corridor.h - blocks, frames and their checks by GOST 28082-89, and texts
+ * spread over a line.
  *
  * The library allocates nothing, keeps no state and calls nothing back: each
  * call works on what the caller lends it and may run in any thread, as long as
@@ -297,6 +298,39 @@ uint32_t corridor_submit(uint8_t n, uint8_t w, corridor_station *station,
 uint32_t corridor_acknowledge(uint8_t n, uint8_t w, corridor_station *station,
                               const uint8_t *store, size_t store_length,
                               uint8_t number, size_t *value);
+
+/*
+ * Interleaves a text: its bytes are laid in rows of d and sent by columns, so
+ * that bytes which stand side by side on the line do not in the text. With d
+ * from 3 to the text's length, damage to text_length / d bytes of the line in
+ * a row spares one of every two neighbours of the text.
+ *
+ *   d            the bytes of a row, at least 1. With d = 1, or d at least
+ *                text_length, the line is the text
+ *   text         any bytes, of any length
+ *   out          takes the line: as many bytes as the text
+ *
+ * Returns 0, or:
+ *   59  d is 0
+ *   60  out is shorter than the text
+ */
+uint32_t corridor_interleave(size_t d, const uint8_t *text, size_t text_length,
+                             uint8_t *out, size_t out_length);
+
+/*
+ * The inverse: gives back the text of which line is sent.
+ *
+ *   d            as the text was laid
+ *   line         any bytes, of any length
+ *   out          takes the text: as many bytes as the line
+ *
+ * Returns 0, or:
+ *   59  d is 0
+ *   60  out is shorter than the line
+ */
+uint32_t corridor_deinterleave(size_t d,
+                               const uint8_t *line, size_t line_length,
+                               uint8_t *out, size_t out_length);
 
 /*
  * The cyclic check of a content, for a method 3, 4, 5 or 6. Bit 0 of the

@@ -9,6 +9,8 @@
 #define corridor_receive plain_receive
 #define corridor_submit plain_submit
 #define corridor_acknowledge plain_acknowledge
+#define corridor_interleave plain_interleave
+#define corridor_deinterleave plain_deinterleave
 #define corridor_check_3 plain_check_3
 #define corridor_check_4 plain_check_4
 #define corridor_check_5 plain_check_5
@@ -21,6 +23,10 @@ void plain_init(void);
 uint32_t copy_submit(uint8_t n, uint8_t w, corridor_station *station,
                      uint8_t *store, size_t store_length,
                      const uint8_t *block, size_t block_length, size_t *value);
+
+/* A copy of the text alone. */
+uint32_t copy_interleave(size_t d, const uint8_t *text, size_t text_length,
+                         uint8_t *out, size_t out_length);
 
 /* zlib's crc32, where zlib is installed: zlib_found then returns 1. */
 int zlib_found(void);

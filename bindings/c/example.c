@@ -1,7 +1,8 @@
 /*
  * Writes a block, reads it back, does the same under DKOI, writes and reads a
- * frame, judges a number and keeps blocks until they are acknowledged. Every
- * step is checked; the program ends with 1 where one fails.
+ * frame, judges a number, keeps blocks until they are acknowledged and spreads
+ * a text over a line. Every step is checked; the program ends with 1 where one
+ * fails.
  */
 #include "corridor.h"
 
@@ -163,6 +164,26 @@ static void sender(void)
     printf("sender: 0, 1, refused 55, 1 freed, 2\n");
 }
 
+/* Rows of 3: AB1, CD2 and EF; two damaged bytes of the line do not stand side
+ * by side in the text. */
+static void interleaving(void)
+{
+    const uint8_t list[] = {'A', 'B', '1', 'C', 'D', '2', 'E', 'F'};
+    uint8_t line[sizeof list];
+    uint8_t text[sizeof list];
+
+    expect(corridor_interleave(3, list, sizeof list, line, sizeof line) == 0,
+           "it is interleaved");
+    expect(memcmp(line, "ACEBDF12", sizeof line) == 0, "column by column");
+    line[2] = line[3] = '?';
+    expect(corridor_deinterleave(3, line, sizeof line, text, sizeof text) == 0,
+           "and back");
+    expect(memcmp(text, "A?1CD2?F", sizeof text) == 0, "one of two is spared");
+    expect(corridor_interleave(0, list, sizeof list, line, 0) == 59, "no row");
+    expect(corridor_interleave(3, list, sizeof list, line, 7) == 60, "short");
+    printf("interleaved: %.8s, refused 59, 60\n", (const char *)text);
+}
+
 int main(void)
 {
     const uint8_t digits[] = {'1', '2', '3', '4', '5', '6', '7', '8', '9'};
@@ -172,6 +193,7 @@ int main(void)
     frame();
     numbers();
     sender();
+    interleaving();
     expect(corridor_check_3(digits, sizeof digits) == 0x906E, "check 3");
     expect(corridor_check_6(digits, sizeof digits) == 0xCBF43926, "check 6");
     return failures == 0 ? 0 : 1;

@@ -1,6 +1,6 @@
 //! Safe Rust calls over the C interface of the corridor library: blocks
 //! (methods 1 to 4 and 7), frames (methods 5 and 6), the number check, the
-//! sender and the cyclic checks of GOST 28082-89.
+//! sender, interleaving and the cyclic checks of GOST 28082-89.
 //!
 //! The calls allocate nothing. Every call finishes with a full result or with
 //! a [`Refusal`]; after a refusal the lent output holds what it held before,
@@ -264,6 +264,17 @@ pub fn acknowledge(
     value_of(number, value).map(|value| value as u8)
 }
 
+/// Lays the text in rows of `d` bytes and puts its columns, one after the
+/// other, to the start of `out`.
+pub fn interleave(d: usize, text: &[u8], out: &mut [u8]) -> Result<(), Refusal> {
+    value_of(codes::interleave(d, text, out), 0).map(|_| ())
+}
+
+/// Gives back the text of a line, at the start of `out`.
+pub fn deinterleave(d: usize, line: &[u8], out: &mut [u8]) -> Result<(), Refusal> {
+    value_of(codes::deinterleave(d, line, out), 0).map(|_| ())
+}
+
 /// The check of method 3; bit 0 is its highest power, the first bit sent.
 pub fn check_3(content: &[u8]) -> u16 {
     // SAFETY: pointer and length are those of one slice, which is only read.
@@ -446,6 +457,20 @@ pub mod codes {
             )
         }
     }
+
+    /// `corridor_interleave`
+    pub fn interleave(d: usize, text: &[u8], out: &mut [u8]) -> u32 {
+        let (room, out) = (out.len(), out.as_mut_ptr());
+        // SAFETY: as in `read_block`.
+        unsafe { interface::corridor_interleave(d, text.as_ptr(), text.len(), out, room) }
+    }
+
+    /// `corridor_deinterleave`
+    pub fn deinterleave(d: usize, line: &[u8], out: &mut [u8]) -> u32 {
+        let (room, out) = (out.len(), out.as_mut_ptr());
+        // SAFETY: as in `read_block`.
+        unsafe { interface::corridor_deinterleave(d, line.as_ptr(), line.len(), out, room) }
+    }
 }
 
 /// The C interface as `include/corridor.h` declares it.
@@ -513,6 +538,20 @@ mod interface {
             store_length: usize,
             number: u8,
             value: *mut usize,
+        ) -> u32;
+        pub fn corridor_interleave(
+            d: usize,
+            text: *const u8,
+            text_length: usize,
+            out: *mut u8,
+            out_length: usize,
+        ) -> u32;
+        pub fn corridor_deinterleave(
+            d: usize,
+            line: *const u8,
+            line_length: usize,
+            out: *mut u8,
+            out_length: usize,
         ) -> u32;
         pub fn corridor_check_3(content: *const u8, length: usize) -> u16;
         pub fn corridor_check_4(content: *const u8, length: usize) -> u16;

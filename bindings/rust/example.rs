@@ -1,5 +1,6 @@
 //! Writes a block, reads it back, does the same under DKOI, sends a frame over,
-//! judges a number and keeps blocks until they are acknowledged.
+//! judges a number, keeps blocks until they are acknowledged and spreads a text
+//! over a line.
 
 #[allow(dead_code)]
 mod corridor;
@@ -38,6 +39,7 @@ fn run() -> Result<(), Refusal> {
     assert_eq!((arrival, awaited), (Arrival::New, 3));
     println!("number 2: {arrival:?}, then {awaited} is awaited");
     sender()?;
+    interleaved()?;
     println!("check of method 3: {:04X}", corridor::check_3(b"123456789"));
     Ok(())
 }
@@ -105,5 +107,18 @@ fn sender() -> Result<(), Refusal> {
     let third = corridor::submit(link, &mut station, &mut store, b"8A 03")?;
     assert_eq!((first, second, freed, third), (0, 1, 1, 2));
     println!("sender: {first}, {second}, {waits:?}, {freed} freed, {third}");
+    Ok(())
+}
+
+/// Rows of 3: AB1, CD2 and EF; two damaged bytes of the line do not stand
+/// side by side in the text.
+fn interleaved() -> Result<(), Refusal> {
+    let (mut line, mut text) = ([0; 8], [0; 8]);
+    corridor::interleave(3, b"AB1CD2EF", &mut line)?;
+    assert_eq!(&line, b"ACEBDF12");
+    line[2..4].fill(b'?');
+    corridor::deinterleave(3, &line, &mut text)?;
+    assert_eq!(&text, b"A?1CD2?F");
+    println!("interleaved: {}", String::from_utf8_lossy(&text));
     Ok(())
 }

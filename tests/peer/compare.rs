@@ -16,6 +16,7 @@ mod expected;
 mod forms;
 mod frames;
 mod generated;
+mod interleaving;
 mod judge;
 mod limits;
 mod lines;
@@ -39,6 +40,9 @@ const CASES: u64 = 1_000_000;
 
 /// Calls of the sender.
 const SENDER_CALLS: u64 = 3_000_000;
+
+/// Texts that are interleaved, behind the small ones.
+const INTERLEAVED: u64 = 50_000;
 
 fn main() -> ExitCode {
     let Some((seed, cases)) = arguments() else {
@@ -67,6 +71,9 @@ fn main() -> ExitCode {
     });
     stage("histories of a sender", tried, |judge| {
         senders::run(&mut judge.tally, &mut random, SENDER_CALLS)
+    });
+    stage("interleaving", tried, |judge| {
+        interleaving::run(&mut judge.tally, &mut random, INTERLEAVED)
     });
     judge.tally.print();
     let missing = judge.tally.missing();

@@ -10,9 +10,11 @@ pub enum Call {
     Receive,
     Submit,
     Acknowledge,
+    Interleave,
+    Deinterleave,
 }
 
-const CALLS: [(Call, &str, &[usize]); 7] = [
+const CALLS: [(Call, &str, &[usize]); 9] = [
     (Call::ReadBlock, "read a block", &[1, 2, 3, 4, 7]),
     (Call::WriteBlock, "write a block", &[1, 2, 3, 4, 7]),
     (Call::ReadFrame, "read a frame", &[5, 6]),
@@ -20,6 +22,8 @@ const CALLS: [(Call, &str, &[usize]); 7] = [
     (Call::Receive, "judge a number", &[]),
     (Call::Submit, "submit a block", &[]),
     (Call::Acknowledge, "acknowledge", &[]),
+    (Call::Interleave, "interleave", &[]),
+    (Call::Deinterleave, "deinterleave", &[]),
 ];
 
 /// Every number that documents 01 and 02 give to a question of the call.
@@ -32,6 +36,7 @@ fn questions(call: Call) -> &'static [usize] {
         Call::Receive => &[41, 51, 42, 43],
         Call::Submit => &[41, 51, 6, 57, 55],
         Call::Acknowledge => &[41, 51, 6, 56],
+        Call::Interleave | Call::Deinterleave => &[59, 60],
     }
 }
 

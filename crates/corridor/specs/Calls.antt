@@ -1,4 +1,4 @@
--- What the C calls answer, by the rules of blocks, frames and numbers. Assumes nothing.
+-- What the C calls answer, by the rules of blocks, frames, numbers, the sender and interleaving. Assumes nothing.
 use Rattle.std.specs.Prelude.{ℕ, List, [], ◌∷◌, length, replicate, Option, Some, None}
 use Rattle.bits.specs.Calls as rule
 use Rattle.block.specs.Answers as block
@@ -6,6 +6,8 @@ use Rattle.frame.specs.Answers as frame
 use Rattle.number.specs.Number.{Outcome, receiving}
 use Rattle.sender.specs.declared.Station.{Station}
 use Rattle.sender.specs.Sender as sender
+use Rattle.interleave.specs.Calls.{Verdict, clear, no}
+use Rattle.interleave.specs.Calls as interleaving
 use Rattle.answers.specs.declared.ValueNumbers.{ValueNumbers}
 use Rattle.answers.specs.declared.VerdictNumbers.{VerdictNumbers}
 use Rattle.answers.specs.Numbers.{read_numbers, written_numbers, frame_numbers, verdict_numbers}
@@ -116,3 +118,21 @@ submit_call n w station store block = after_submitting (sender.submit_call n w s
 -- of n, w, the record, the store and the named number
 abbrev pub acknowledge_call : ℕ → ℕ → Station → List ℕ → ℕ → StationCall
 acknowledge_call n w station store number = after_sending (sender.acknowledging n w station (length store) number) store
+
+-- ---- interleaving
+
+abbrev pub verdict_number : Verdict → ℕ
+verdict_number clear = 0
+verdict_number (no number) = number
+
+-- no value goes with the number
+abbrev pub after_interleaving : rule.Call Verdict → Call
+after_interleaving c = called (verdict_number c.answer) [] c.output
+
+-- of d, the text and the output
+abbrev pub interleave_call : ℕ → List ℕ → List ℕ → Call
+interleave_call d text out = after_interleaving (interleaving.interleave_call d text out)
+
+-- of d, the line and the output
+abbrev pub deinterleave_call : ℕ → List ℕ → List ℕ → Call
+deinterleave_call d line out = after_interleaving (interleaving.deinterleave_call d line out)

@@ -1,7 +1,7 @@
-// The calls of the library for C and Rust: reading and writing blocks and frames, the number check, the sender, and the checks of
-// methods 3 to 6. Crate `corridor_c` exports them. Methods, shapes and refusals go by document 01's numbers; 0 is success. Every input is taken: a
-// code outside its list answers 1, with an answer of zeros. The output keeps every byte that a success does not name. Bit 0 of a
-// check is its highest power and is sent first.
+// The calls of the library for C and Rust: reading and writing blocks and frames, the number check, the sender, interleaving and the checks of
+// methods 3 to 6. Crate `corridor_c` exports them. Methods, shapes and refusals go by document
+// 01's numbers; 0 is success. Every input is taken: a code outside its list answers 1, with an answer of zeros. The output keeps every
+// byte that a success does not name. Bit 0 of a check is its highest power and is sent first.
 #![tactic(auto)]
 
 ghost use Rattle.std.specs.Prelude.{◌≡◌};
@@ -16,11 +16,13 @@ use cyclic6::Cyclic6;
 
 mod blocks;
 mod frames;
+mod interleaving;
 mod numbers;
 mod senders;
 
 pub use blocks::{corridor_read_block, corridor_write_block};
 pub use frames::{corridor_read_frame, corridor_write_frame};
+pub use interleaving::{corridor_deinterleave, corridor_interleave};
 pub use numbers::corridor_receive;
 pub use senders::{corridor_acknowledge, corridor_submit};
 

@@ -5,7 +5,7 @@
 ghost use Rattle.std.specs.Prelude.{◌≡◌, [], ◌∷◌};
 ghost use Rattle.bits.specs.Bytes.{low_bits, bits_of};
 ghost use Rattle.cyclic.specs.Check.{check_bits, method3, method4, method5, method6};
-ghost use Rattle.corridor.specs.Calls.{called, read_block_call, write_block_call, read_frame_call, write_frame_call, receive_call, station_called, submit_call, acknowledge_call};
+ghost use Rattle.corridor.specs.Calls.{called, read_block_call, write_block_call, read_frame_call, write_frame_call, receive_call, station_called, submit_call, acknowledge_call, interleave_call, deinterleave_call};
 
 use sender::Station;
 
@@ -136,4 +136,18 @@ pub extern "C" fn corridor_acknowledge(
     ensures { station_called result value.new station.new store.now ≡ acknowledge_call n w station.old store.now number }
 {
     corridor::corridor_acknowledge(n, w, &mut *station, store, number, &mut *value)
+}
+
+#[unsafe(no_mangle)]
+pub extern "C" fn corridor_interleave(d: usize, text: &[u8], out: &mut [u8]) -> u32
+    ensures { called result [] out.new ≡ interleave_call d text.now out.old }
+{
+    corridor::corridor_interleave(d, text, &mut *out)
+}
+
+#[unsafe(no_mangle)]
+pub extern "C" fn corridor_deinterleave(d: usize, line: &[u8], out: &mut [u8]) -> u32
+    ensures { called result [] out.new ≡ deinterleave_call d line.now out.old }
+{
+    corridor::corridor_deinterleave(d, line, &mut *out)
 }

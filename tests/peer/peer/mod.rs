@@ -12,6 +12,7 @@ pub mod diagonals;
 pub mod division;
 pub mod frame;
 pub mod grammar;
+pub mod interleave;
 pub mod number;
 pub mod sender;
 pub mod signs;

@@ -1,0 +1,9 @@
+pub mod Starts
+pub mod Order
+pub mod Places
+pub mod Permutation
+pub mod Inverse
+pub mod Properties
+pub mod Walk
+pub mod Examples
+pub mod OneToOne

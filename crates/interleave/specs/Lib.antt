@@ -1,0 +1,6 @@
+pub mod Interleave
+pub mod Calls
+pub mod Answers
+pub mod Steps
+pub mod Properties
+pub mod Examples
