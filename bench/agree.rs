@@ -149,6 +149,33 @@ impl Agreement<'_> {
         });
     }
 
+    fn replay_round(&mut self, random: &mut Random) {
+        let n = random.below(9) as u8;
+        let w = random.below(9) as u8;
+        let known = if random.once_in(4) { 5 } else { 3 };
+        let records = random.few(60);
+        let more = random.of(&[0, 0, 0, 1, 15]);
+        let mut trace = random.bytes(16 * records + more);
+        for record in trace.chunks_mut(16) {
+            record[0] = 1 + random.below(known) as u8;
+            if record.len() >= 4 && !random.once_in(8) {
+                record[1] %= 8;
+                record[2] = 0;
+            }
+        }
+        let room = (usize::from(w) * 4_096 + random.below(3)).saturating_sub(1);
+        let what = || format!("replay_panel {n} {w} {trace:?} {room}");
+        self.same(&what, room + 19, &|calls, out, values| {
+            let (store, end) = out.split_at_mut(room);
+            let (mut station, mut c) = (Station::default(), 0x5A);
+            let told = (&mut station, &mut c);
+            let refusal = calls.replay_panel((n, w), &trace, store, told, &mut values[0]);
+            end[..18].copy_from_slice(&bytes_of(&station));
+            end[18] = c;
+            refusal
+        });
+    }
+
     fn block_round(&mut self, random: &mut Random, longest: usize) {
         let link = lines::link(random, Code::Koi7);
         let parts = lines::parts(random, link, longest);
@@ -264,6 +291,7 @@ pub fn run(peers: &[&'static Calls]) -> u64 {
         agreement.frame_round(&mut random, if long { 4_200 } else { 12 });
         agreement.sender_round(&mut random);
         agreement.interleave_round(&mut random, if long { 4_200 } else { 70 });
+        agreement.replay_round(&mut random);
     }
     agreement.limits(&mut random);
     agreement.numbers();

@@ -23,6 +23,10 @@ type Acknowledge = unsafe extern "C" fn(
     u8, u8, *mut Station, *const u8, usize, u8, *mut usize,
 ) -> u32;
 type Interleave = unsafe extern "C" fn(usize, *const u8, usize, *mut u8, usize) -> u32;
+#[rustfmt::skip]
+type ReplayPanel = unsafe extern "C" fn(
+    u8, u8, *const u8, usize, *mut u8, usize, *mut Station, *mut u8, *mut usize,
+) -> u32;
 type Check16 = unsafe extern "C" fn(*const u8, usize) -> u16;
 type Check32 = unsafe extern "C" fn(*const u8, usize) -> u32;
 
@@ -37,6 +41,7 @@ pub struct Calls {
     acknowledge: Acknowledge,
     interleave: Interleave,
     deinterleave: Interleave,
+    replay_panel: ReplayPanel,
     check_3: Check16,
     check_4: Check16,
     check_5: Check16,
@@ -160,6 +165,20 @@ impl Calls {
         unsafe { (self.deinterleave)(d, line.as_ptr(), line.len(), out, room) }
     }
 
+    #[inline(always)]
+    pub fn replay_panel(
+        &self,
+        (n, w): (u8, u8),
+        trace: &[u8],
+        store: &mut [u8],
+        (station, c): (&mut Station, &mut u8),
+        value: &mut usize,
+    ) -> u32 {
+        let (length, trace) = (trace.len(), trace.as_ptr());
+        let (room, store) = (store.len(), store.as_mut_ptr());
+        unsafe { (self.replay_panel)(n, w, trace, length, store, room, station, c, value) }
+    }
+
     /// The check of a method 3 to 6.
     #[inline(always)]
     pub fn check(&self, method: u8, content: &[u8]) -> u32 {
@@ -175,10 +194,11 @@ impl Calls {
     }
 }
 
-/// Declares the thirteen functions of a linked library and gathers them.
+/// Declares the fourteen functions of a linked library and gathers them.
 macro_rules! linked {
     ($calls:ident, $name:literal, $read_block:ident, $write_block:ident, $read_frame:ident, $write_frame:ident,
      $receive:ident, $submit:ident, $acknowledge:ident, $interleave:ident, $deinterleave:ident,
+     $replay_panel:ident,
      $check_3:ident, $check_4:ident, $check_5:ident, $check_6:ident) => {
         #[rustfmt::skip]
         extern "C" {
@@ -193,6 +213,8 @@ macro_rules! linked {
             fn $acknowledge(_: u8, _: u8, _: *mut Station, _: *const u8, _: usize, _: u8, _: *mut usize) -> u32;
             fn $interleave(_: usize, _: *const u8, _: usize, _: *mut u8, _: usize) -> u32;
             fn $deinterleave(_: usize, _: *const u8, _: usize, _: *mut u8, _: usize) -> u32;
+            fn $replay_panel(_: u8, _: u8, _: *const u8, _: usize, _: *mut u8, _: usize,
+                _: *mut Station, _: *mut u8, _: *mut usize) -> u32;
             fn $check_3(_: *const u8, _: usize) -> u16;
             fn $check_4(_: *const u8, _: usize) -> u16;
             fn $check_5(_: *const u8, _: usize) -> u16;
@@ -209,6 +231,7 @@ macro_rules! linked {
             acknowledge: $acknowledge,
             interleave: $interleave,
             deinterleave: $deinterleave,
+            replay_panel: $replay_panel,
             check_3: $check_3,
             check_4: $check_4,
             check_5: $check_5,
@@ -220,10 +243,12 @@ macro_rules! linked {
 #[rustfmt::skip]
 linked!(LIBRARY, "library", corridor_read_block, corridor_write_block, corridor_read_frame, corridor_write_frame,
     corridor_receive, corridor_submit, corridor_acknowledge, corridor_interleave, corridor_deinterleave,
+    corridor_replay_panel,
     corridor_check_3, corridor_check_4, corridor_check_5, corridor_check_6);
 #[rustfmt::skip]
 linked!(PLAIN_C, "C", plain_read_block, plain_write_block, plain_read_frame, plain_write_frame,
     plain_receive, plain_submit, plain_acknowledge, plain_interleave, plain_deinterleave,
+    plain_replay_panel,
     plain_check_3, plain_check_4, plain_check_5, plain_check_6);
 
 pub static RUST: Calls = Calls {
@@ -237,6 +262,7 @@ pub static RUST: Calls = Calls {
     acknowledge: shell::acknowledge,
     interleave: shell::interleave,
     deinterleave: shell::deinterleave,
+    replay_panel: shell::replay_panel,
     check_3: shell::check_3,
     check_4: shell::check_4,
     check_5: shell::check_3,

@@ -221,6 +221,33 @@ pub fn deinterleave(random: &mut Random, d: usize, length: usize) -> Case {
     })
 }
 
+/// Traces of so many records, modulus 8, window 7: a third of each event, most
+/// submissions short, the awaited number received as often as not.
+pub fn replay_panel(random: &mut Random, records: usize) -> Case {
+    let traces = several(16 * records, || {
+        let mut trace = random.bytes(16 * records);
+        let mut awaited = 0;
+        for record in trace.chunks_mut(16) {
+            record[0] = 1 + random.below(3) as u8;
+            record[1] = random.below(8) as u8;
+            record[2] = 0;
+            record[3] = 16;
+            if record[0] == 3 && random.once_in(2) {
+                record[1] = awaited;
+                awaited = (awaited + 1) % 8;
+            }
+        }
+        trace
+    });
+    let (mut store, mut value) = (vec![0; 7 * CELL], 0);
+    let (mut station, mut c) = (Station::default(), 0);
+    in_turn(traces, move |calls, trace| {
+        let end = (&mut station, &mut c);
+        black_box(calls.replay_panel((3, 7), trace, &mut store, end, &mut value));
+        black_box((&station, &c, &store, &value));
+    })
+}
+
 pub fn check(random: &mut Random, method: u8, length: usize) -> Case {
     in_turn(
         several(length, || random.bytes(length)),

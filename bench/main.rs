@@ -30,6 +30,7 @@ const SHORT: [usize; 4] = [16, 64, 256, 4_096];
 const LONG: [usize; 5] = [16, 64, 256, 4_096, 65_536];
 const STORED: [usize; 2] = [16, 4_095];
 const SPREAD: [usize; 3] = [64, 4_096, 65_536];
+const RECORDS: [usize; 3] = [16, 256, 4_096];
 
 const MEANING: &str =
     "A ratio is the time of the proved call divided by the peer's: smaller is better. Times are the
@@ -182,6 +183,18 @@ fn interleaving(random: &mut Random, word: &str) -> Table {
     }
 }
 
+fn replays(random: &mut Random, word: &str) -> Table {
+    let mut rows = Rows::of(word);
+    rows.add("replay_panel window 7", &RECORDS, |records| {
+        inputs::replay_panel(random, records)
+    });
+    Table {
+        title: "replays, by records",
+        lengths: &RECORDS,
+        rows: rows.rows,
+    }
+}
+
 fn checks(random: &mut Random, word: &str, found: Found) -> Table {
     let mut rows = Rows::of(word);
     for method in 3..=6 {
@@ -220,6 +233,7 @@ fn main() -> ExitCode {
         numbers(&word),
         submissions(random, &word),
         interleaving(random, &word),
+        replays(random, &word),
         checks(random, &word, found),
     ];
     tables.retain(|table| !table.rows.is_empty());

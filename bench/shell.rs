@@ -133,6 +133,17 @@ pub unsafe extern "C" fn deinterleave(
     told(peer_fast::deinterleave(d, line, slice::from_raw_parts_mut(out, room)))
 }
 
+#[rustfmt::skip]
+pub unsafe extern "C" fn replay_panel(
+    n: u8, w: u8, trace: *const u8, length: usize, store: *mut u8, room: usize,
+    station: *mut Station, c: *mut u8, value: *mut usize,
+) -> u32 {
+    let trace = slice::from_raw_parts(trace, length);
+    let store = slice::from_raw_parts_mut(store, room);
+    let end = peer_fast::replay_panel((n, w), trace, store);
+    answered(end.map(|told| { (*station, *c) = told; [0] }), value)
+}
+
 pub unsafe extern "C" fn check_3(content: *const u8, length: usize) -> u16 {
     peer_fast::check_3(slice::from_raw_parts(content, length))
 }

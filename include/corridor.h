@@ -89,6 +89,8 @@ extern "C" {
 #define CORRIDOR_LONGEST_CONTENT_32 65536 /* content bytes, method 6 */
 #define CORRIDOR_CELL 4096                /* bytes of a cell of a store */
 #define CORRIDOR_LONGEST_STORED 4095      /* bytes of a block in a store */
+#define CORRIDOR_RECORD 16                /* bytes of a record of a trace */
+#define CORRIDOR_NOTES 12                 /* its bytes 4 to 15 */
 
 /*
  * Reads one block.
@@ -331,6 +333,55 @@ uint32_t corridor_interleave(size_t d, const uint8_t *text, size_t text_length,
 uint32_t corridor_deinterleave(size_t d,
                                const uint8_t *line, size_t line_length,
                                uint8_t *out, size_t out_length);
+
+/*
+ * Replays a recorded line for the panel's reader: runs a sending station and
+ * the number check again from fresh, over the records in order.
+ *
+ *   n, w         as for corridor_submit, of the sender and of the number check
+ *   trace        records of CORRIDOR_RECORD bytes, with no header:
+ *                  0       the event: 1 submitted, 2 acknowledged, 3 received
+ *                  1       the number that was acknowledged or received; no
+ *                          part in a submission
+ *                  2, 3    the length of a submission, high byte first
+ *                  4 - 7   milliseconds
+ *                  8 - 15  service notes
+ *                This reader reads bytes 0 to 3 alone.
+ *   store        w * CORRIDOR_CELL bytes; takes what the submissions store,
+ *                each as many zero bytes as its length says
+ *   station      takes the station's record at the end
+ *   c            takes the awaited number at the end
+ *
+ * Replay goes on behind a submission, an acknowledgement or a number that is
+ * refused: with 57, 55, 56 or 43 it alters nothing.
+ *
+ * Returns 0:     *value is 0
+ * Otherwise *value is the value named here (else 0), and store, station and c
+ * are as they were:
+ *   41  n is not from 1 to 7
+ *   51  w is not from 1 to 7 or not below the modulus
+ *    6  the store is too short; bytes needed
+ *   61  trace_length is no multiple of CORRIDOR_RECORD
+ *   62  an event is none of 1, 2 and 3; index of the first such record
+ */
+uint32_t corridor_replay_panel(uint8_t n, uint8_t w,
+                               const uint8_t *trace, size_t trace_length,
+                               uint8_t *store, size_t store_length,
+                               corridor_station *station, uint8_t *c,
+                               size_t *value);
+
+/*
+ * The same for the service reader, who is told besides:
+ *
+ *   notes        takes bytes 4 to 15 of the last record, zeros if there is
+ *                none; after a refusal they are as they were
+ */
+uint32_t corridor_replay_service(uint8_t n, uint8_t w,
+                                 const uint8_t *trace, size_t trace_length,
+                                 uint8_t *store, size_t store_length,
+                                 corridor_station *station, uint8_t *c,
+                                 uint8_t notes[CORRIDOR_NOTES],
+                                 size_t *value);
 
 /*
  * The cyclic check of a content, for a method 3, 4, 5 or 6. Bit 0 of the

@@ -9,6 +9,7 @@ mod frame;
 mod grammar;
 mod interleave;
 mod number;
+mod replay;
 mod sender;
 mod signs;
 
@@ -17,4 +18,5 @@ pub use check::{check_3, check_4, check_6};
 pub use frame::{read as read_frame, write as write_frame};
 pub use interleave::{deinterleave, interleave};
 pub use number::receive;
+pub use replay::replay_panel;
 pub use sender::{acknowledge, submit};

@@ -1,8 +1,8 @@
 /*
  * Writes a block, reads it back, does the same under DKOI, writes and reads a
- * frame, judges a number, keeps blocks until they are acknowledged and spreads
- * a text over a line. Every step is checked; the program ends with 1 where one
- * fails.
+ * frame, judges a number, keeps blocks until they are acknowledged, spreads a
+ * text over a line and replays a recorded line. Every step is checked; the
+ * program ends with 1 where one fails.
  */
 #include "corridor.h"
 
@@ -184,6 +184,36 @@ static void interleaving(void)
     printf("interleaved: %.8s, refused 59, 60\n", (const char *)text);
 }
 
+/* Modulus 8, window 2: two submissions of 5 and of 4,096 bytes, of which the
+ * second is refused, number 0 acknowledged, number 0 received. */
+static void replay(void)
+{
+    static uint8_t store[2 * CORRIDOR_CELL];
+    uint8_t trace[4 * CORRIDOR_RECORD] = {
+        [0 * CORRIDOR_RECORD] = 1, [0 * CORRIDOR_RECORD + 3] = 5,
+        [1 * CORRIDOR_RECORD] = 1, [1 * CORRIDOR_RECORD + 2] = 0x10,
+        [2 * CORRIDOR_RECORD] = 2,
+        [3 * CORRIDOR_RECORD] = 3, [3 * CORRIDOR_RECORD + 15] = 0x5A,
+    };
+    corridor_station station = {0};
+    uint8_t c = 0;
+    uint8_t notes[CORRIDOR_NOTES];
+    size_t value;
+
+    expect(corridor_replay_service(3, 2, trace, sizeof trace, store,
+                                   sizeof store, &station, &c, notes,
+                                   &value) == 0, "it is replayed");
+    expect(station.next == 1 && station.stored == 0, "its record");
+    expect(station.cell == 1 && station.lengths[0] == 5, "its ring");
+    expect(c == 1 && notes[0] == 0 && notes[11] == 0x5A, "c and the notes");
+    trace[2 * CORRIDOR_RECORD] = 4;
+    expect(corridor_replay_panel(3, 2, trace, sizeof trace, store,
+                                 sizeof store, &station, &c, &value) == 62,
+           "an unknown event");
+    expect(value == 2 && c == 1, "its index, and c is as it was");
+    printf("replay: 1 submitted, 1 freed, 1 awaited, refused 62 at 2\n");
+}
+
 int main(void)
 {
     const uint8_t digits[] = {'1', '2', '3', '4', '5', '6', '7', '8', '9'};
@@ -194,6 +224,7 @@ int main(void)
     numbers();
     sender();
     interleaving();
+    replay();
     expect(corridor_check_3(digits, sizeof digits) == 0x906E, "check 3");
     expect(corridor_check_6(digits, sizeof digits) == 0xCBF43926, "check 6");
     return failures == 0 ? 0 : 1;

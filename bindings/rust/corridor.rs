@@ -1,6 +1,6 @@
 //! Safe Rust calls over the C interface of the corridor library: blocks
 //! (methods 1 to 4 and 7), frames (methods 5 and 6), the number check, the
-//! sender, interleaving and the cyclic checks of GOST 28082-89.
+//! sender, interleaving, replay and the cyclic checks of GOST 28082-89.
 //!
 //! The calls allocate nothing. Every call finishes with a full result or with
 //! a [`Refusal`]; after a refusal the lent output holds what it held before,
@@ -275,6 +275,56 @@ pub fn deinterleave(d: usize, line: &[u8], out: &mut [u8]) -> Result<(), Refusal
     value_of(codes::deinterleave(d, line, out), 0).map(|_| ())
 }
 
+/// Bytes of a record of a trace.
+pub const RECORD: usize = 16;
+
+/// What the panel's reader is told of a trace: the record of the station and
+/// the awaited number at the end.
+#[derive(Clone, Copy, PartialEq, Eq, Debug)]
+pub struct PanelReading {
+    pub station: Station,
+    pub awaited: u8,
+}
+
+/// What the service reader is told: the same, and bytes 4 to 15 of the last
+/// record, zeros if there is none.
+#[derive(Clone, Copy, PartialEq, Eq, Debug)]
+pub struct ServiceReading {
+    pub station: Station,
+    pub awaited: u8,
+    pub notes: [u8; 12],
+}
+
+/// Replays a trace, which is records of [`RECORD`] bytes, from a fresh station
+/// and the awaited number 0. The store, `window` cells of [`CELL`] bytes, takes
+/// what the submissions store; after a refusal it is as it was.
+pub fn replay_panel(
+    (n, window): (u8, u8),
+    trace: &[u8],
+    store: &mut [u8],
+) -> Result<PanelReading, Refusal> {
+    let (mut station, mut awaited, mut value) = (Station::fresh(), 0, 0);
+    let end = (&mut station.0, &mut awaited);
+    let number = codes::replay_panel(n, window, trace, store, end, &mut value);
+    value_of(number, value).map(|_| PanelReading { station, awaited })
+}
+
+/// The same for the service reader.
+pub fn replay_service(
+    (n, window): (u8, u8),
+    trace: &[u8],
+    store: &mut [u8],
+) -> Result<ServiceReading, Refusal> {
+    let (mut station, mut awaited, mut notes, mut value) = (Station::fresh(), 0, [0; 12], 0);
+    let end = (&mut station.0, &mut awaited, &mut notes);
+    let number = codes::replay_service(n, window, trace, store, end, &mut value);
+    value_of(number, value).map(|_| ServiceReading {
+        station,
+        awaited,
+        notes,
+    })
+}
+
 /// The check of method 3; bit 0 is its highest power, the first bit sent.
 pub fn check_3(content: &[u8]) -> u16 {
     // SAFETY: pointer and length are those of one slice, which is only read.
@@ -471,6 +521,43 @@ pub mod codes {
         // SAFETY: as in `read_block`.
         unsafe { interface::corridor_deinterleave(d, line.as_ptr(), line.len(), out, room) }
     }
+
+    /// `corridor_replay_panel`; the record and the awaited number at the end
+    pub fn replay_panel(
+        n: u8,
+        w: u8,
+        trace: &[u8],
+        store: &mut [u8],
+        (station, c): (&mut Station, &mut u8),
+        value: &mut usize,
+    ) -> u32 {
+        let (length, room) = (trace.len(), store.len());
+        let (trace, store) = (trace.as_ptr(), store.as_mut_ptr());
+        // SAFETY: as in `submit`; `c` is lent for writing.
+        unsafe {
+            interface::corridor_replay_panel(n, w, trace, length, store, room, station, c, value)
+        }
+    }
+
+    /// `corridor_replay_service`; the last record's notes besides
+    pub fn replay_service(
+        n: u8,
+        w: u8,
+        trace: &[u8],
+        store: &mut [u8],
+        (station, c, notes): (&mut Station, &mut u8, &mut [u8; 12]),
+        value: &mut usize,
+    ) -> u32 {
+        let (length, room) = (trace.len(), store.len());
+        let (trace, store) = (trace.as_ptr(), store.as_mut_ptr());
+        let notes = notes.as_mut_ptr();
+        // SAFETY: as in `replay_panel`; `notes` holds twelve bytes.
+        unsafe {
+            interface::corridor_replay_service(
+                n, w, trace, length, store, room, station, c, notes, value,
+            )
+        }
+    }
 }
 
 /// The C interface as `include/corridor.h` declares it.
@@ -552,6 +639,29 @@ mod interface {
             line_length: usize,
             out: *mut u8,
             out_length: usize,
+        ) -> u32;
+        pub fn corridor_replay_panel(
+            n: u8,
+            w: u8,
+            trace: *const u8,
+            trace_length: usize,
+            store: *mut u8,
+            store_length: usize,
+            station: *mut Station,
+            c: *mut u8,
+            value: *mut usize,
+        ) -> u32;
+        pub fn corridor_replay_service(
+            n: u8,
+            w: u8,
+            trace: *const u8,
+            trace_length: usize,
+            store: *mut u8,
+            store_length: usize,
+            station: *mut Station,
+            c: *mut u8,
+            notes: *mut u8,
+            value: *mut usize,
         ) -> u32;
         pub fn corridor_check_3(content: *const u8, length: usize) -> u16;
         pub fn corridor_check_4(content: *const u8, length: usize) -> u16;

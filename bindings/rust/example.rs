@@ -1,13 +1,12 @@
 //! Writes a block, reads it back, does the same under DKOI, sends a frame over,
-//! judges a number, keeps blocks until they are acknowledged and spreads a text
-//! over a line.
+//! judges a number, keeps blocks until they are acknowledged, spreads a text
+//! over a line and replays a recorded line.
 
 #[allow(dead_code)]
 mod corridor;
 
-use corridor::{
-    Arrival, BlockMethod, Code, EndSign, FrameMethod, Link, Parity, Refusal, Shape, Station, CELL,
-};
+use corridor::{Arrival, BlockMethod, Code, EndSign, FrameMethod, Link, Parity, Refusal, Shape};
+use corridor::{Station, CELL, RECORD};
 
 /// The matrix with even parity, which carries KOI-7 alone.
 const MATRIX: Link = Link {
@@ -40,6 +39,7 @@ fn run() -> Result<(), Refusal> {
     println!("number 2: {arrival:?}, then {awaited} is awaited");
     sender()?;
     interleaved()?;
+    replay()?;
     println!("check of method 3: {:04X}", corridor::check_3(b"123456789"));
     Ok(())
 }
@@ -120,5 +120,25 @@ fn interleaved() -> Result<(), Refusal> {
     corridor::deinterleave(3, &line, &mut text)?;
     assert_eq!(&text, b"A?1CD2?F");
     println!("interleaved: {}", String::from_utf8_lossy(&text));
+    Ok(())
+}
+
+/// Modulus 8, window 2: two submissions of 5 and of 4,096 bytes, of which the
+/// second is refused, number 0 acknowledged, number 0 received.
+fn replay() -> Result<(), Refusal> {
+    let (link, mut store) = ((3, 2), [0; 2 * CELL]);
+    let mut trace = [[0; RECORD]; 4];
+    trace[0][..4].copy_from_slice(&[1, 0, 0, 5]);
+    trace[1][..4].copy_from_slice(&[1, 0, 0x10, 0]);
+    trace[2][..4].copy_from_slice(&[2, 0, 0, 0]);
+    trace[3] = [3, 0, 0, 0, 0, 0, 0, 1, 1, 2, 3, 4, 5, 6, 7, 8];
+    let reading = corridor::replay_service(link, trace.as_flattened(), &mut store)?;
+    assert_eq!(reading.awaited, 1);
+    assert_eq!(reading.notes, [0, 0, 0, 1, 1, 2, 3, 4, 5, 6, 7, 8]);
+    trace[2][0] = 4;
+    let refused = corridor::replay_panel(link, trace.as_flattened(), &mut store);
+    let (number, value) = (62, 2);
+    assert_eq!(refused, Err(Refusal { number, value }));
+    println!("replay: {reading:?}, then {refused:?}");
     Ok(())
 }

@@ -23,6 +23,7 @@ mod lines;
 #[allow(dead_code)]
 mod peer;
 mod random;
+mod replays;
 mod rows;
 mod senders;
 mod small;
@@ -43,6 +44,9 @@ const SENDER_CALLS: u64 = 3_000_000;
 
 /// Texts that are interleaved, behind the small ones.
 const INTERLEAVED: u64 = 50_000;
+
+/// Calls of the two readers of a recorded line.
+const REPLAY_CALLS: u64 = 500_000;
 
 fn main() -> ExitCode {
     let Some((seed, cases)) = arguments() else {
@@ -74,6 +78,9 @@ fn main() -> ExitCode {
     });
     stage("interleaving", tried, |judge| {
         interleaving::run(&mut judge.tally, &mut random, INTERLEAVED)
+    });
+    stage("replays", tried, |judge| {
+        replays::run(&mut judge.tally, &mut random, REPLAY_CALLS)
     });
     judge.tally.print();
     let missing = judge.tally.missing();

@@ -22,7 +22,7 @@ struct History {
     sender: Sender,
 }
 
-fn of_record(record: &Record) -> codes::Station {
+pub fn of_record(record: &Record) -> codes::Station {
     let mut lengths = [0; 7];
     for (place, length) in record.lengths.iter().enumerate() {
         lengths[place] = *length as u16;
@@ -45,7 +45,7 @@ fn to_record(station: &codes::Station) -> Record {
 }
 
 /// A length of a block: mostly short, often at the limit, sometimes over it.
-fn length(random: &mut Random) -> usize {
+pub fn some_length(random: &mut Random) -> usize {
     match random.below(24) {
         0 => 4_095,
         1 => 4_096,
@@ -117,7 +117,7 @@ impl History {
     }
 
     fn submit(&mut self, random: &mut Random, tally: &mut Tally) {
-        let length = length(random);
+        let length = some_length(random);
         let block = random.bytes(length);
         let mut store = self.store.clone();
         let (number, value) = match self.sender.submit(&block) {

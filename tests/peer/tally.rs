@@ -12,9 +12,11 @@ pub enum Call {
     Acknowledge,
     Interleave,
     Deinterleave,
+    ReplayPanel,
+    ReplayService,
 }
 
-const CALLS: [(Call, &str, &[usize]); 9] = [
+const CALLS: [(Call, &str, &[usize]); 11] = [
     (Call::ReadBlock, "read a block", &[1, 2, 3, 4, 7]),
     (Call::WriteBlock, "write a block", &[1, 2, 3, 4, 7]),
     (Call::ReadFrame, "read a frame", &[5, 6]),
@@ -24,6 +26,8 @@ const CALLS: [(Call, &str, &[usize]); 9] = [
     (Call::Acknowledge, "acknowledge", &[]),
     (Call::Interleave, "interleave", &[]),
     (Call::Deinterleave, "deinterleave", &[]),
+    (Call::ReplayPanel, "replay, panel", &[]),
+    (Call::ReplayService, "replay, service", &[]),
 ];
 
 /// Every number that documents 01 and 02 give to a question of the call.
@@ -37,6 +41,7 @@ fn questions(call: Call) -> &'static [usize] {
         Call::Submit => &[41, 51, 6, 57, 55],
         Call::Acknowledge => &[41, 51, 6, 56],
         Call::Interleave | Call::Deinterleave => &[59, 60],
+        Call::ReplayPanel | Call::ReplayService => &[41, 51, 6, 61, 62],
     }
 }
 

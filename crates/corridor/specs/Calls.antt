@@ -8,6 +8,9 @@ use Rattle.sender.specs.declared.Station.{Station}
 use Rattle.sender.specs.Sender as sender
 use Rattle.interleave.specs.Calls.{Verdict, clear, no}
 use Rattle.interleave.specs.Calls as interleaving
+use Rattle.replay.specs.declared.PanelReading.{PanelReading}
+use Rattle.replay.specs.declared.ServiceReading.{ServiceReading}
+use Rattle.replay.specs.Replay.{Answer, reading, refused, panel_call, service_call}
 use Rattle.answers.specs.declared.ValueNumbers.{ValueNumbers}
 use Rattle.answers.specs.declared.VerdictNumbers.{VerdictNumbers}
 use Rattle.answers.specs.Numbers.{read_numbers, written_numbers, frame_numbers, verdict_numbers}
@@ -136,3 +139,41 @@ interleave_call d text out = after_interleaving (interleaving.interleave_call d 
 -- of d, the line and the output
 abbrev pub deinterleave_call : ℕ → List ℕ → List ℕ → Call
 deinterleave_call d line out = after_interleaving (interleaving.deinterleave_call d line out)
+
+-- ---- replay
+
+-- the number that a call returns, its value, and record, awaited number, notes and store afterwards
+pub record ReplayCall : Type 0 where
+  pub number : ℕ
+  pub value : ℕ
+  pub station : Station
+  pub c : ℕ
+  pub notes : List ℕ
+  pub store : List ℕ
+
+abbrev pub replay_called : ℕ → ℕ → Station → ℕ → List ℕ → List ℕ → ReplayCall
+replay_called number value station c notes store =
+    record { number = number; value = value; station = station; c = c; notes = notes; store = store }
+
+-- after a refusal record and c are as they were; the panel's reader is lent no notes
+abbrev pub panel_by : Answer PanelReading → Station → ℕ → List ℕ → ReplayCall
+panel_by (reading r) station c store = replay_called 0 0 r.station r.c [] store
+panel_by (refused number value) station c store = replay_called number value station c [] store
+
+abbrev pub after_panel : rule.Call (Answer PanelReading) → Station → ℕ → ReplayCall
+after_panel call station c = panel_by call.answer station c call.output
+
+-- of n, w, the trace, the store, and record and c as they were lent
+abbrev pub replay_panel_call : ℕ → ℕ → List ℕ → List ℕ → Station → ℕ → ReplayCall
+replay_panel_call n w trace store station c = after_panel (panel_call n w trace store) station c
+
+-- the notes too
+abbrev pub service_by : Answer ServiceReading → Station → ℕ → List ℕ → List ℕ → ReplayCall
+service_by (reading r) station c notes store = replay_called 0 0 r.station r.c r.notes store
+service_by (refused number value) station c notes store = replay_called number value station c notes store
+
+abbrev pub after_service : rule.Call (Answer ServiceReading) → Station → ℕ → List ℕ → ReplayCall
+after_service call station c notes = service_by call.answer station c notes call.output
+
+abbrev pub replay_service_call : ℕ → ℕ → List ℕ → List ℕ → Station → ℕ → List ℕ → ReplayCall
+replay_service_call n w trace store station c notes = after_service (service_call n w trace store) station c notes

@@ -5,7 +5,7 @@
 ghost use Rattle.std.specs.Prelude.{◌≡◌, [], ◌∷◌};
 ghost use Rattle.bits.specs.Bytes.{low_bits, bits_of};
 ghost use Rattle.cyclic.specs.Check.{check_bits, method3, method4, method5, method6};
-ghost use Rattle.corridor.specs.Calls.{called, read_block_call, write_block_call, read_frame_call, write_frame_call, receive_call, station_called, submit_call, acknowledge_call, interleave_call, deinterleave_call};
+ghost use Rattle.corridor.specs.Calls.{called, read_block_call, write_block_call, read_frame_call, write_frame_call, receive_call, station_called, submit_call, acknowledge_call, interleave_call, deinterleave_call, replay_called, replay_panel_call, replay_service_call};
 
 use sender::Station;
 
@@ -150,4 +150,52 @@ pub extern "C" fn corridor_deinterleave(d: usize, line: &[u8], out: &mut [u8]) -
     ensures { called result [] out.new ≡ deinterleave_call d line.now out.old }
 {
     corridor::corridor_deinterleave(d, line, &mut *out)
+}
+
+#[unsafe(no_mangle)]
+pub extern "C" fn corridor_replay_panel(
+    n: u8,
+    w: u8,
+    trace: &[u8],
+    store: &mut [u8],
+    station: &mut Station,
+    c: &mut u8,
+    value: &mut usize,
+) -> u32
+    ensures { replay_called result value.new station.new c.new [] store.new ≡ replay_panel_call n w trace.now store.old station.old c.old }
+{
+    corridor::corridor_replay_panel(
+        n,
+        w,
+        trace,
+        &mut *store,
+        &mut *station,
+        &mut *c,
+        &mut *value,
+    )
+}
+
+#[unsafe(no_mangle)]
+pub extern "C" fn corridor_replay_service(
+    n: u8,
+    w: u8,
+    trace: &[u8],
+    store: &mut [u8],
+    station: &mut Station,
+    c: &mut u8,
+    notes: &mut [u8; 12],
+    value: &mut usize,
+) -> u32
+    ensures { replay_called result value.new station.new c.new notes.new store.new ≡ replay_service_call n w trace.now store.old station.old c.old notes.old }
+{
+    corridor::corridor_replay_service(
+        n,
+        w,
+        trace,
+        &mut *store,
+        &mut *station,
+        &mut *c,
+        &mut *notes,
+        &mut *value,
+    )
 }

@@ -5,7 +5,7 @@ use borrow.Rule.Slice.PartMut.{put_mid}
 use Rattle.bits.specs.Calls.{called}
 use Rattle.sender.specs.declared.Station.{Station}
 use Rattle.sender.specs.Ring.{submitted_after}
-use Rattle.sender.specs.Sender.{storing, freeing, Outcome, clear, no, of_submission, of_number, refused, by_verdict, with_block, submitting, after_submitting, submit_call, with_latest, acknowledging}
+use Rattle.sender.specs.Sender.{storing, freeing, Outcome, clear, no, of_submission, of_number, refused, by_verdict, submitting, after_submitting, submit_call, with_latest, acknowledging}
 use Rattle.sender.specs.Answers.{told}
 
 -- a part of a slice copied over
@@ -25,13 +25,12 @@ module _ (n w : ℕ) (s : Station) where
     submit_refused e q =
         ap (λ (x : Outcome). called x store) e ∙ ap (λ v. after_submitting (by_verdict v s (storing n w s (length block))) s store block) q
 
-    pub submit_done : clear ≡ of_submission n w s (length store) (length block) → {after : Station} {store' : List ℕ}
-        → after ≡ with_block n w s (length block) → store' ≡ sets store (s.cell * 4096) block
-        → called (told (Ok s.next) after) store' ≡ submit_call n w s store block
+    pub submit_done : clear ≡ of_submission n w s (length store) (length block) → {o : Outcome} {store' : List ℕ}
+        → o ≡ storing n w s (length block) → store' ≡ sets store (s.cell * 4096) block
+        → called o store' ≡ submit_call n w s store block
     unfolding submitting
     submit_done q e f =
-        ap₂ (λ (y : Station) l. called (told (Ok s.next) y) l) e f
-        ∙ ap (λ v. after_submitting (by_verdict v s (storing n w s (length block))) s store block) q
+        ap₂ (λ (x : Outcome) l. called x l) e f ∙ ap (λ v. after_submitting (by_verdict v s (storing n w s (length block))) s store block) q
 
   module _ (size number : ℕ) where
     pub acknowledge_refused : {k value : ℕ} {o : Outcome} → o ≡ record { answer = refused k value; station = s }

@@ -52,6 +52,16 @@ holds_as {n} {w} {gone} {gone'} {all} {all'} {nums} {nums'} {s} {store} e f g z 
     (subst (λ (l : List ℕ). Holds n w all' l gone s store) f
     (subst (λ (l : List (List ℕ)). Holds n w l nums gone s store) e z))
 
+pub fresh_right : {n w : ℕ} → Agreed n w → Right n w fresh
+fresh_right {n} a =
+    record {
+      agreed = a;
+      stored_most = omega arith;
+      cell_below = omega (arith, a.w_least);
+      next_below = pow_pos n;
+      lengths_most = refl;
+    }
+
 begins : (n w : ℕ) (store : List ℕ) → Holds n w [] [] 0 fresh store
 unfolding down_from
 begins n w store =
@@ -61,13 +71,7 @@ begins n w store =
       in_turn = refl;
       next = sym (zero-mod (2 ^ n));
       seven = refl;
-      right = λ a. record {
-        agreed = a;
-        stored_most = omega arith;
-        cell_below = omega (arith, a.w_least);
-        next_below = pow_pos n;
-        lengths_most = refl;
-      };
+      right = fresh_right;
       begun = λ some. absurd (omega arith);
     }
 

@@ -6,3 +6,4 @@ pub mod Cells
 pub mod Outcomes
 pub mod Histories
 pub mod Answering
+pub mod Results

@@ -6,14 +6,14 @@ use Rattle.sender.specs.declared.SenderResult.{SenderResult}
 use Rattle.sender.specs.Sender.{Answer, done, refused, Outcome}
 use Rattle.sender.specs.Answers.{number_of, value_of, answer_of, outcome_of}
 
-refusal_from : ℕ → ℕ → SenderRefusal
+pub refusal_from : ℕ → ℕ → SenderRefusal
 refusal_from number value =
     cond (eqb number 41) Modulus
     (cond (eqb number 51) Record
     (cond (eqb number 6) (StoreShort value)
     (cond (eqb number 57) TooLong (cond (eqb number 55) Full NotStored))))
 
-refusal_back : (r : SenderRefusal) → refusal_from (number_of r) (value_of r) ≡ r
+pub refusal_back : (r : SenderRefusal) → refusal_from (number_of r) (value_of r) ≡ r
 unfolding refusal_from
 refusal_back Modulus = refl
 refusal_back Record = refl

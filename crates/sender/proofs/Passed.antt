@@ -12,7 +12,7 @@ use Rattle.sender.specs.Right.{Right}
 
 -- ---- one question
 
-apart : {number value : ℕ} → no number value ≡ clear → ⊥
+pub apart : {number value : ℕ} → no number value ≡ clear → ⊥
 apart e = let z : ◌≡◌ {A = ℕ} 0 1 = cc in omega arith
 
 pub both : (a b : Bool) → (a && b) ≡ true → (a ≡ true) × (b ≡ true)
@@ -88,7 +88,7 @@ pub record Ready (n w : ℕ) (s : Station) (size : ℕ) : Type 0 where
   pub room : w * 4096 ≤ size
 
 module _ (n w : ℕ) (s : Station) (size : ℕ) where
-  store_passed : {next : Verdict} → of_record n w s (of_store w size next) ≡ clear → Ready n w s size × (next ≡ clear)
+  pub store_passed : {next : Verdict} → of_record n w s (of_store w size next) ≡ clear → Ready n w s size × (next ≡ clear)
   store_passed e =
       let a = record_passed n w s e in
       let b = ask-passed (leb (w * 4096) size) apart (a.1) in
@@ -97,7 +97,7 @@ module _ (n w : ℕ) (s : Station) (size : ℕ) where
   pub right_behind : clear ≡ of_record n w s (of_store w size clear) → Right n w s
   right_behind e = (store_passed (sym e)).0.right
 
-  ready_passes : (next : Verdict) → Ready n w s size → of_record n w s (of_store w size next) ≡ next
+  pub ready_passes : (next : Verdict) → Ready n w s size → of_record n w s (of_store w size next) ≡ next
   ready_passes next z = right_passes n w s (of_store w size next) (z.right) ∙ rw (le-leb (w * 4096) size (z.room))
 
   pub submission_passed : (len : ℕ) → of_submission n w s size len ≡ clear → Ready n w s size × (len ≤ 4095) × (s.stored < w)

@@ -44,4 +44,5 @@ mod questions;
 mod records;
 mod ring;
 
-pub use calls::{acknowledge, acknowledge_to, submit, submit_to};
+pub use calls::{acknowledge, acknowledge_to, submit, submit_to, submit_zeros};
+pub use questions::ask_store;

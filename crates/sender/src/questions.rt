@@ -51,8 +51,8 @@ fn ask_record(n: u8, w: u8, station: Station) -> Result<(), SenderRefusal>
     Ok(())
 }
 
-// 41, 51 and 6, which both calls ask first.
-fn ask_store(n: u8, w: u8, station: Station, size: usize) -> Result<(), SenderRefusal>
+// 41, 51 and 6, which the calls ask first.
+pub fn ask_store(n: u8, w: u8, station: Station, size: usize) -> Result<(), SenderRefusal>
     ensures { (next : rule.Verdict) → after_asked result next ≡ rule.of_record n w station (rule.of_store w size next) }
 {
     ask_record(n, w, station)?;

@@ -10,7 +10,7 @@ ghost use Rattle.sender_answers.specs.Numbers.{sender_numbers};
 use answers::{ValueNumbers, numbers};
 use sender::SenderRefusal;
 
-fn refusal_numbers(refusal: SenderRefusal) -> ValueNumbers
+pub fn refusal_numbers(refusal: SenderRefusal) -> ValueNumbers
     ensures { result ≡ value_numbers (number_of refusal) (value_of refusal) }
 {
     match refusal {

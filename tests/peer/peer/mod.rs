@@ -14,6 +14,7 @@ pub mod frame;
 pub mod grammar;
 pub mod interleave;
 pub mod number;
+pub mod replay;
 pub mod sender;
 pub mod signs;
 

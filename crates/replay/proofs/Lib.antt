@@ -1,0 +1,10 @@
+pub mod Traces
+pub mod EachEvent
+pub mod Asking
+pub mod Answering
+pub mod OrderedCalls
+pub mod Reception
+pub mod MadeCalls
+pub mod OneToOne
+pub mod Agreement
+pub mod Acceptance

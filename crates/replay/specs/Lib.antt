@@ -1,0 +1,4 @@
+pub mod Replay
+pub mod Answers
+pub mod Calls
+pub mod Agreement
