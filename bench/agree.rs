@@ -1,7 +1,7 @@
 //! Before anything is timed: on generated inputs, sound and damaged, each
 //! peer gives the library's numbers, values and output bytes.
 
-use crate::calls::{Calls, Form, Station, LIBRARY};
+use crate::calls::{Calls, Form, Part, Station, LIBRARY};
 use crate::frames;
 use crate::lines::{self, Fill};
 use crate::peer::bits;
@@ -84,6 +84,26 @@ impl Agreement<'_> {
         for method in 3..=6 {
             let what = || format!("check_{method} {content:02X?}");
             self.same(&what, 0, &|calls, _, _| calls.check(method, content));
+        }
+    }
+
+    /// Any two checks of parts of lengths within the limit, just over it, and
+    /// far over it.
+    fn joins(&mut self, random: &mut Random) {
+        for method in 3..=6 {
+            let limit = if method == 6 { 65_536 } else { 4_096 };
+            let any = random.below(limit);
+            let second = random.of(&[0, 1, 16, any, limit, usize::MAX]);
+            let first = random.of(&[0, 1, limit.saturating_sub(second), limit, usize::MAX]);
+            let mut part = |length| Part {
+                check: random.next() as u32,
+                length,
+            };
+            let (first, second) = (part(first), part(second));
+            let what = || format!("join_{method} {first:X?} {second:X?}");
+            self.same(&what, 0, &|calls, _, values| {
+                calls.join(method, first, second, &mut values[0])
+            });
         }
     }
 
@@ -292,6 +312,7 @@ pub fn run(peers: &[&'static Calls]) -> u64 {
         agreement.sender_round(&mut random);
         agreement.interleave_round(&mut random, if long { 4_200 } else { 70 });
         agreement.replay_round(&mut random);
+        agreement.joins(&mut random);
     }
     agreement.limits(&mut random);
     agreement.numbers();
@@ -304,6 +325,7 @@ pub fn run_checks(peers: &[&'static Calls]) -> u64 {
     let mut random = Random::of_seed(28_082);
     for length in (0..600).chain([4_095, 4_096, 65_535, 65_536]) {
         agreement.checks(&random.bytes(length));
+        agreement.joins(&mut random);
     }
     agreement.calls
 }

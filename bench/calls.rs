@@ -29,6 +29,8 @@ type ReplayPanel = unsafe extern "C" fn(
 ) -> u32;
 type Check16 = unsafe extern "C" fn(*const u8, usize) -> u16;
 type Check32 = unsafe extern "C" fn(*const u8, usize) -> u32;
+type Join16 = unsafe extern "C" fn(u16, usize, u16, usize, *mut usize) -> u32;
+type Join32 = unsafe extern "C" fn(u32, usize, u32, usize, *mut usize) -> u32;
 
 pub struct Calls {
     pub name: &'static str,
@@ -46,6 +48,10 @@ pub struct Calls {
     check_4: Check16,
     check_5: Check16,
     check_6: Check32,
+    join_3: Join16,
+    join_4: Join16,
+    join_5: Join16,
+    join_6: Join32,
 }
 
 /// The record of a sending station.
@@ -56,6 +62,13 @@ pub struct Station {
     pub stored: u8,
     pub cell: u8,
     pub lengths: [u16; 7],
+}
+
+/// A check, and the bytes of its part.
+#[derive(Clone, Copy, Debug)]
+pub struct Part {
+    pub check: u32,
+    pub length: usize,
 }
 
 /// What a block is written from, as codes and slices.
@@ -192,14 +205,35 @@ impl Calls {
             }
         }
     }
+
+    /// The joined check of a method 3 to 6; of 3 to 5 the low 16 bits count.
+    #[inline(always)]
+    pub fn join(&self, method: u8, first: Part, second: Part, value: &mut usize) -> u32 {
+        let (a, b) = (first.check as u16, second.check as u16);
+        unsafe {
+            match method {
+                3 => (self.join_3)(a, first.length, b, second.length, value),
+                4 => (self.join_4)(a, first.length, b, second.length, value),
+                5 => (self.join_5)(a, first.length, b, second.length, value),
+                _ => (self.join_6)(
+                    first.check,
+                    first.length,
+                    second.check,
+                    second.length,
+                    value,
+                ),
+            }
+        }
+    }
 }
 
-/// Declares the fourteen functions of a linked library and gathers them.
+/// Declares the eighteen functions of a linked library and gathers them.
 macro_rules! linked {
     ($calls:ident, $name:literal, $read_block:ident, $write_block:ident, $read_frame:ident, $write_frame:ident,
      $receive:ident, $submit:ident, $acknowledge:ident, $interleave:ident, $deinterleave:ident,
      $replay_panel:ident,
-     $check_3:ident, $check_4:ident, $check_5:ident, $check_6:ident) => {
+     $check_3:ident, $check_4:ident, $check_5:ident, $check_6:ident,
+     $join_3:ident, $join_4:ident, $join_5:ident, $join_6:ident) => {
         #[rustfmt::skip]
         extern "C" {
             fn $read_block(_: u8, _: u8, _: u8, _: *const u8, _: usize, _: *mut u8, _: usize, _: *mut usize) -> u32;
@@ -219,6 +253,10 @@ macro_rules! linked {
             fn $check_4(_: *const u8, _: usize) -> u16;
             fn $check_5(_: *const u8, _: usize) -> u16;
             fn $check_6(_: *const u8, _: usize) -> u32;
+            fn $join_3(_: u16, _: usize, _: u16, _: usize, _: *mut usize) -> u32;
+            fn $join_4(_: u16, _: usize, _: u16, _: usize, _: *mut usize) -> u32;
+            fn $join_5(_: u16, _: usize, _: u16, _: usize, _: *mut usize) -> u32;
+            fn $join_6(_: u32, _: usize, _: u32, _: usize, _: *mut usize) -> u32;
         }
         pub static $calls: Calls = Calls {
             name: $name,
@@ -236,6 +274,10 @@ macro_rules! linked {
             check_4: $check_4,
             check_5: $check_5,
             check_6: $check_6,
+            join_3: $join_3,
+            join_4: $join_4,
+            join_5: $join_5,
+            join_6: $join_6,
         };
     };
 }
@@ -244,12 +286,14 @@ macro_rules! linked {
 linked!(LIBRARY, "library", corridor_read_block, corridor_write_block, corridor_read_frame, corridor_write_frame,
     corridor_receive, corridor_submit, corridor_acknowledge, corridor_interleave, corridor_deinterleave,
     corridor_replay_panel,
-    corridor_check_3, corridor_check_4, corridor_check_5, corridor_check_6);
+    corridor_check_3, corridor_check_4, corridor_check_5, corridor_check_6,
+    corridor_join_3, corridor_join_4, corridor_join_5, corridor_join_6);
 #[rustfmt::skip]
 linked!(PLAIN_C, "C", plain_read_block, plain_write_block, plain_read_frame, plain_write_frame,
     plain_receive, plain_submit, plain_acknowledge, plain_interleave, plain_deinterleave,
     plain_replay_panel,
-    plain_check_3, plain_check_4, plain_check_5, plain_check_6);
+    plain_check_3, plain_check_4, plain_check_5, plain_check_6,
+    plain_join_3, plain_join_4, plain_join_5, plain_join_6);
 
 pub static RUST: Calls = Calls {
     name: "Rust",
@@ -267,6 +311,10 @@ pub static RUST: Calls = Calls {
     check_4: shell::check_4,
     check_5: shell::check_3,
     check_6: shell::check_6,
+    join_3: shell::join_3,
+    join_4: shell::join_4,
+    join_5: shell::join_3,
+    join_6: shell::join_6,
 };
 
 extern "C" {
@@ -284,6 +332,7 @@ extern "C" {
     fn copy_interleave(_: usize, _: *const u8, _: usize, _: *mut u8, _: usize) -> u32;
     fn zlib_found() -> i32;
     fn zlib_check_6(content: *const u8, length: usize) -> u32;
+    fn zlib_join_6(_: u32, _: usize, _: u32, _: usize, _: *mut usize) -> u32;
     fn libdeflate_found() -> i32;
     fn libdeflate_check_6(content: *const u8, length: usize) -> u32;
 }
@@ -323,10 +372,46 @@ unsafe extern "C" fn koi7_write_block(
     )
 }
 
-/// Plain C with zlib's crc32 as its check of method 6.
+/// A content of the longest length, for the checks computed again.
+static CONTENT: [u8; 65_536] = [0x5A; 65_536];
+
+/// The check of so many bytes in place of a joined one.
+macro_rules! again {
+    ($name:ident, $kind:ty, $check:ident) => {
+        unsafe extern "C" fn $name(
+            _: $kind,
+            first: usize,
+            _: $kind,
+            second: usize,
+            value: *mut usize,
+        ) -> u32 {
+            *value = (LIBRARY.$check)(CONTENT.as_ptr(), first + second) as usize;
+            0
+        }
+    };
+}
+
+again!(again_3, u16, check_3);
+again!(again_4, u16, check_4);
+again!(again_5, u16, check_5);
+again!(again_6, u32, check_6);
+
+/// The library's own check of the whole content, computed again.
+pub static AGAIN: Calls = Calls {
+    name: "again",
+    join_3: again_3,
+    join_4: again_4,
+    join_5: again_5,
+    join_6: again_6,
+    ..LIBRARY
+};
+
+/// Plain C with zlib's crc32 as its check of method 6, and crc32_combine as
+/// the joined one.
 pub static ZLIB: Calls = Calls {
     name: "zlib",
     check_6: zlib_check_6,
+    join_6: zlib_join_6,
     ..PLAIN_C
 };
 

@@ -1,6 +1,6 @@
 //! The timed inputs: one case for each call, kind and length.
 
-use crate::calls::{Calls, Form, Station, LIBRARY};
+use crate::calls::{Calls, Form, Part, Station, LIBRARY};
 use crate::peer::sender::CELL;
 use crate::peer::signs::{Link, SYN};
 use crate::random::Random;
@@ -255,4 +255,23 @@ pub fn check(random: &mut Random, method: u8, length: usize) -> Case {
             black_box(calls.check(method, content));
         },
     )
+}
+
+/// Any two checks, the second of a part of half to all of so many bytes, both
+/// of so many together.
+pub fn join(random: &mut Random, method: u8, length: usize) -> Case {
+    let pairs = several(16, || {
+        let second = length / 2 + random.below(length / 2 + 1);
+        let lengths = (length - second, second);
+        let mut part = |length| Part {
+            check: random.next() as u32,
+            length,
+        };
+        (part(lengths.0), part(lengths.1))
+    });
+    let mut value = 0;
+    in_turn(pairs, move |calls, (first, second)| {
+        black_box(calls.join(method, *first, *second, &mut value));
+        black_box(&value);
+    })
 }

@@ -20,7 +20,7 @@ mod random;
 mod shell;
 mod table;
 
-use calls::{Calls, Found, KOI7, LIBDEFLATE, MEMCPY, PLAIN_C, RUST, ZLIB};
+use calls::{Calls, Found, AGAIN, KOI7, LIBDEFLATE, MEMCPY, PLAIN_C, RUST, ZLIB};
 use inputs::Case;
 use random::Random;
 use std::process::ExitCode;
@@ -40,6 +40,8 @@ static BOTH: [&Calls; 2] = [&PLAIN_C, &RUST];
 static CRC32: [&Calls; 2] = [&ZLIB, &LIBDEFLATE];
 static COPY: [&Calls; 1] = [&MEMCPY];
 static UNDER_KOI7: [&Calls; 1] = [&KOI7];
+static COMBINE: [&Calls; 1] = [&ZLIB];
+static WHOLE: [&Calls; 1] = [&AGAIN];
 
 /// The rows of a table whose name contains a word; every name contains "".
 struct Rows<'a> {
@@ -221,6 +223,35 @@ fn checks(random: &mut Random, word: &str, found: Found) -> Table {
     }
 }
 
+fn joins(random: &mut Random, word: &str, found: Found) -> Table {
+    let methods: [(u8, &[usize]); 4] = [(3, &SHORT), (4, &SHORT), (5, &SHORT), (6, &LONG)];
+    let mut rows = Rows::of(word);
+    for (method, lengths) in methods {
+        rows.add(
+            &format!("join_{method}       two checks"),
+            lengths,
+            |length| inputs::join(random, method, length),
+        );
+    }
+    for (method, lengths) in methods {
+        let name = format!("join_{method}       against check_{method} again");
+        rows.beside(&WHOLE, &name, lengths, |length| {
+            inputs::join(random, method, length)
+        });
+    }
+    if found.zlib {
+        let name = "join_6       against zlib's crc32_combine";
+        rows.beside(&COMBINE, name, &LONG, |length| {
+            inputs::join(random, 6, length)
+        });
+    }
+    Table {
+        title: "joined checks, by bytes of both parts",
+        lengths: &LONG,
+        rows: rows.rows,
+    }
+}
+
 fn main() -> ExitCode {
     let word = std::env::args().nth(1).unwrap_or_default();
     let found = calls::init();
@@ -235,6 +266,7 @@ fn main() -> ExitCode {
         interleaving(random, &word),
         replays(random, &word),
         checks(random, &word, found),
+        joins(random, &word, found),
     ];
     tables.retain(|table| !table.rows.is_empty());
     if tables.is_empty() {

@@ -155,3 +155,31 @@ pub unsafe extern "C" fn check_4(content: *const u8, length: usize) -> u16 {
 pub unsafe extern "C" fn check_6(content: *const u8, length: usize) -> u32 {
     peer_fast::check_6(slice::from_raw_parts(content, length))
 }
+
+/// A joined check.
+unsafe fn joined(answer: Result<u32, Refusal>, value: *mut usize) -> u32 {
+    answered(answer.map(|check| [check as usize]), value)
+}
+
+#[rustfmt::skip]
+pub unsafe extern "C" fn join_3(
+    first: u16, first_length: usize, second: u16, second_length: usize, value: *mut usize,
+) -> u32 {
+    let (first, second) = ((u32::from(first), first_length), (u32::from(second), second_length));
+    joined(peer_fast::join_3(first, second), value)
+}
+
+#[rustfmt::skip]
+pub unsafe extern "C" fn join_4(
+    first: u16, first_length: usize, second: u16, second_length: usize, value: *mut usize,
+) -> u32 {
+    let (first, second) = ((u32::from(first), first_length), (u32::from(second), second_length));
+    joined(peer_fast::join_4(first, second), value)
+}
+
+#[rustfmt::skip]
+pub unsafe extern "C" fn join_6(
+    first: u32, first_length: usize, second: u32, second_length: usize, value: *mut usize,
+) -> u32 {
+    joined(peer_fast::join_6((first, first_length), (second, second_length)), value)
+}

@@ -393,6 +393,34 @@ uint16_t corridor_check_4(const uint8_t *content, size_t content_length);
 uint16_t corridor_check_5(const uint8_t *content, size_t content_length);
 uint32_t corridor_check_6(const uint8_t *content, size_t content_length);
 
+/*
+ * The check of two parts joined, for a method 3, 4, 5 or 6, without the parts:
+ * from the check and the length in bytes of each.
+ *
+ *   first, second                the checks, as corridor_check_3 to 6 give them
+ *   first_length, second_length  any length, 0 included
+ *
+ * Returns 0:     *value is the check of the first part followed by the second
+ * Otherwise *value is 0:
+ *   63  both parts together are over 4,096 bytes (methods 3, 4, 5) or 65,536
+ *       (method 6)
+ *
+ * Of values that are no checks *value is the remainder, modulo the method's
+ * polynomial, of the first times x to the second part's bits, plus the second.
+ */
+uint32_t corridor_join_3(uint16_t first, size_t first_length,
+                         uint16_t second, size_t second_length,
+                         size_t *value);
+uint32_t corridor_join_4(uint16_t first, size_t first_length,
+                         uint16_t second, size_t second_length,
+                         size_t *value);
+uint32_t corridor_join_5(uint16_t first, size_t first_length,
+                         uint16_t second, size_t second_length,
+                         size_t *value);
+uint32_t corridor_join_6(uint32_t first, size_t first_length,
+                         uint32_t second, size_t second_length,
+                         size_t *value);
+
 #ifdef __cplusplus
 }
 #endif

@@ -16,6 +16,10 @@
 #define corridor_check_4 plain_check_4
 #define corridor_check_5 plain_check_5
 #define corridor_check_6 plain_check_6
+#define corridor_join_3 plain_join_3
+#define corridor_join_4 plain_join_4
+#define corridor_join_5 plain_join_5
+#define corridor_join_6 plain_join_6
 #include "../../include/corridor.h"
 
 void plain_init(void);
@@ -29,9 +33,12 @@ uint32_t copy_submit(uint8_t n, uint8_t w, corridor_station *station,
 uint32_t copy_interleave(size_t d, const uint8_t *text, size_t text_length,
                          uint8_t *out, size_t out_length);
 
-/* zlib's crc32, where zlib is installed: zlib_found then returns 1. */
+/* zlib's crc32 and crc32_combine, where zlib is installed: zlib_found then
+ * returns 1. */
 int zlib_found(void);
 uint32_t zlib_check_6(const uint8_t *content, size_t length);
+uint32_t zlib_join_6(uint32_t first, size_t first_length,
+                     uint32_t second, size_t second_length, size_t *value);
 
 /* The same of libdeflate. */
 int libdeflate_found(void);

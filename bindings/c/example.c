@@ -1,8 +1,8 @@
 /*
  * Writes a block, reads it back, does the same under DKOI, writes and reads a
  * frame, judges a number, keeps blocks until they are acknowledged, spreads a
- * text over a line and replays a recorded line. Every step is checked; the
- * program ends with 1 where one fails.
+ * text over a line, replays a recorded line and joins the checks of two parts.
+ * Every step is checked; the program ends with 1 where one fails.
  */
 #include "corridor.h"
 
@@ -214,6 +214,26 @@ static void replay(void)
     printf("replay: 1 submitted, 1 freed, 1 awaited, refused 62 at 2\n");
 }
 
+/* The check of a fixed heading and a daily list, from those of both. */
+static void joined(void)
+{
+    const uint8_t whole[] = {'L', 'I', 'S', 'T', ' ', '7', 'B', ' ', '1', '2'};
+    const size_t heading = 5;
+    const size_t list = sizeof whole - heading;
+    size_t value;
+
+    expect(corridor_join_3(corridor_check_3(whole, heading), heading,
+                           corridor_check_3(whole + heading, list), list,
+                           &value) == 0, "both are joined");
+    expect(value == corridor_check_3(whole, sizeof whole), "check 3, joined");
+    expect(corridor_join_6(corridor_check_6(whole, heading), heading,
+                           corridor_check_6(whole + heading, list), list,
+                           &value) == 0, "both are joined");
+    expect(value == corridor_check_6(whole, sizeof whole), "check 6, joined");
+    expect(corridor_join_3(0, SIZE_MAX, 0, 1, &value) == 63, "too long");
+    printf("joined: %08zX, refused 63\n", (size_t)corridor_check_6(whole, sizeof whole));
+}
+
 int main(void)
 {
     const uint8_t digits[] = {'1', '2', '3', '4', '5', '6', '7', '8', '9'};
@@ -225,6 +245,7 @@ int main(void)
     sender();
     interleaving();
     replay();
+    joined();
     expect(corridor_check_3(digits, sizeof digits) == 0x906E, "check 3");
     expect(corridor_check_6(digits, sizeof digits) == 0xCBF43926, "check 6");
     return failures == 0 ? 0 : 1;

@@ -1,6 +1,6 @@
 //! Safe Rust calls over the C interface of the corridor library: blocks
 //! (methods 1 to 4 and 7), frames (methods 5 and 6), the number check, the
-//! sender, interleaving, replay and the cyclic checks of GOST 28082-89.
+//! sender, interleaving, replay, the cyclic checks of GOST 28082-89 and those of two parts joined.
 //!
 //! The calls allocate nothing. Every call finishes with a full result or with
 //! a [`Refusal`]; after a refusal the lent output holds what it held before,
@@ -349,6 +349,49 @@ pub fn check_6(content: &[u8]) -> u32 {
     unsafe { interface::corridor_check_6(content.as_ptr(), content.len()) }
 }
 
+/// A part of a content: its check, and its length in bytes.
+#[derive(Clone, Copy, PartialEq, Eq, Debug)]
+pub struct Part<Check> {
+    pub check: Check,
+    pub length: usize,
+}
+
+/// The check of method 3 of two parts joined, from what is known of each; 63
+/// where they have over 4,096 bytes together.
+pub fn join_3(first: Part<u16>, second: Part<u16>) -> Result<u16, Refusal> {
+    let mut value = 0;
+    let (first, second) = ((first.check, first.length), (second.check, second.length));
+    let number = codes::join_3(first, second, &mut value);
+    value_of(number, value).map(|value| value as u16)
+}
+
+/// The check of method 4 of two parts joined, from what is known of each; 63
+/// where they have over 4,096 bytes together.
+pub fn join_4(first: Part<u16>, second: Part<u16>) -> Result<u16, Refusal> {
+    let mut value = 0;
+    let (first, second) = ((first.check, first.length), (second.check, second.length));
+    let number = codes::join_4(first, second, &mut value);
+    value_of(number, value).map(|value| value as u16)
+}
+
+/// The check of method 5 of two parts joined, from what is known of each; 63
+/// where they have over 4,096 bytes together.
+pub fn join_5(first: Part<u16>, second: Part<u16>) -> Result<u16, Refusal> {
+    let mut value = 0;
+    let (first, second) = ((first.check, first.length), (second.check, second.length));
+    let number = codes::join_5(first, second, &mut value);
+    value_of(number, value).map(|value| value as u16)
+}
+
+/// The check of method 6 of two parts joined, from what is known of each; 63
+/// where they have over 65,536 bytes together.
+pub fn join_6(first: Part<u32>, second: Part<u32>) -> Result<u32, Refusal> {
+    let mut value = 0;
+    let (first, second) = ((first.check, first.length), (second.check, second.length));
+    let number = codes::join_6(first, second, &mut value);
+    value_of(number, value).map(|value| value as u32)
+}
+
 /// The same calls with the interface's own codes and answers, for programs
 /// that take the codes from elsewhere: a code outside its list gives 1.
 pub mod codes {
@@ -558,6 +601,30 @@ pub mod codes {
             )
         }
     }
+
+    /// `corridor_join_3`
+    pub fn join_3(first: (u16, usize), second: (u16, usize), value: &mut usize) -> u32 {
+        // SAFETY: `value` is lent for writing.
+        unsafe { interface::corridor_join_3(first.0, first.1, second.0, second.1, value) }
+    }
+
+    /// `corridor_join_4`
+    pub fn join_4(first: (u16, usize), second: (u16, usize), value: &mut usize) -> u32 {
+        // SAFETY: as in `join_3`.
+        unsafe { interface::corridor_join_4(first.0, first.1, second.0, second.1, value) }
+    }
+
+    /// `corridor_join_5`
+    pub fn join_5(first: (u16, usize), second: (u16, usize), value: &mut usize) -> u32 {
+        // SAFETY: as in `join_3`.
+        unsafe { interface::corridor_join_5(first.0, first.1, second.0, second.1, value) }
+    }
+
+    /// `corridor_join_6`
+    pub fn join_6(first: (u32, usize), second: (u32, usize), value: &mut usize) -> u32 {
+        // SAFETY: as in `join_3`.
+        unsafe { interface::corridor_join_6(first.0, first.1, second.0, second.1, value) }
+    }
 }
 
 /// The C interface as `include/corridor.h` declares it.
@@ -667,5 +734,33 @@ mod interface {
         pub fn corridor_check_4(content: *const u8, length: usize) -> u16;
         pub fn corridor_check_5(content: *const u8, length: usize) -> u16;
         pub fn corridor_check_6(content: *const u8, length: usize) -> u32;
+        pub fn corridor_join_3(
+            first: u16,
+            first_length: usize,
+            second: u16,
+            second_length: usize,
+            value: *mut usize,
+        ) -> u32;
+        pub fn corridor_join_4(
+            first: u16,
+            first_length: usize,
+            second: u16,
+            second_length: usize,
+            value: *mut usize,
+        ) -> u32;
+        pub fn corridor_join_5(
+            first: u16,
+            first_length: usize,
+            second: u16,
+            second_length: usize,
+            value: *mut usize,
+        ) -> u32;
+        pub fn corridor_join_6(
+            first: u32,
+            first_length: usize,
+            second: u32,
+            second_length: usize,
+            value: *mut usize,
+        ) -> u32;
     }
 }

@@ -1,12 +1,12 @@
 //! Writes a block, reads it back, does the same under DKOI, sends a frame over,
 //! judges a number, keeps blocks until they are acknowledged, spreads a text
-//! over a line and replays a recorded line.
+//! over a line, replays a recorded line and joins the checks of two parts.
 
 #[allow(dead_code)]
 mod corridor;
 
-use corridor::{Arrival, BlockMethod, Code, EndSign, FrameMethod, Link, Parity, Refusal, Shape};
-use corridor::{Station, CELL, RECORD};
+use corridor::{Arrival, BlockMethod, Code, EndSign, FrameMethod, Link, Parity, Part, Refusal};
+use corridor::{Shape, Station, CELL, RECORD};
 
 /// The matrix with even parity, which carries KOI-7 alone.
 const MATRIX: Link = Link {
@@ -40,6 +40,7 @@ fn run() -> Result<(), Refusal> {
     sender()?;
     interleaved()?;
     replay()?;
+    joined()?;
     println!("check of method 3: {:04X}", corridor::check_3(b"123456789"));
     Ok(())
 }
@@ -140,5 +141,17 @@ fn replay() -> Result<(), Refusal> {
     let (number, value) = (62, 2);
     assert_eq!(refused, Err(Refusal { number, value }));
     println!("replay: {reading:?}, then {refused:?}");
+    Ok(())
+}
+
+/// The check of a fixed heading and a daily list, from those of both.
+fn joined() -> Result<(), Refusal> {
+    let part = |content: &[u8]| Part {
+        check: corridor::check_6(content),
+        length: content.len(),
+    };
+    let check = corridor::join_6(part(b"COVER LIST "), part(b"7B ROOM 12"))?;
+    assert_eq!(check, corridor::check_6(b"COVER LIST 7B ROOM 12"));
+    println!("joined: {check:08X}");
     Ok(())
 }

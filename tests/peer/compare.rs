@@ -17,6 +17,7 @@ mod forms;
 mod frames;
 mod generated;
 mod interleaving;
+mod joins;
 mod judge;
 mod limits;
 mod lines;
@@ -81,6 +82,9 @@ fn main() -> ExitCode {
     });
     stage("replays", tried, |judge| {
         replays::run(&mut judge.tally, &mut random, REPLAY_CALLS)
+    });
+    stage("joined checks", tried, |judge| {
+        joins::run(&mut judge.tally, &mut random)
     });
     judge.tally.print();
     let missing = judge.tally.missing();

@@ -14,9 +14,10 @@ pub enum Call {
     Deinterleave,
     ReplayPanel,
     ReplayService,
+    Join,
 }
 
-const CALLS: [(Call, &str, &[usize]); 11] = [
+const CALLS: [(Call, &str, &[usize]); 12] = [
     (Call::ReadBlock, "read a block", &[1, 2, 3, 4, 7]),
     (Call::WriteBlock, "write a block", &[1, 2, 3, 4, 7]),
     (Call::ReadFrame, "read a frame", &[5, 6]),
@@ -28,6 +29,7 @@ const CALLS: [(Call, &str, &[usize]); 11] = [
     (Call::Deinterleave, "deinterleave", &[]),
     (Call::ReplayPanel, "replay, panel", &[]),
     (Call::ReplayService, "replay, service", &[]),
+    (Call::Join, "join two checks", &[3, 4, 5, 6]),
 ];
 
 /// Every number that documents 01 and 02 give to a question of the call.
@@ -42,6 +44,7 @@ fn questions(call: Call) -> &'static [usize] {
         Call::Acknowledge => &[41, 51, 6, 56],
         Call::Interleave | Call::Deinterleave => &[59, 60],
         Call::ReplayPanel | Call::ReplayService => &[41, 51, 6, 61, 62],
+        Call::Join => &[63],
     }
 }
 

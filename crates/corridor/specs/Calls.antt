@@ -1,5 +1,6 @@
--- What the C calls answer, by the rules of blocks, frames, numbers, the sender and interleaving. Assumes nothing.
+-- What the C calls answer, by the rules of blocks, frames, numbers, the sender, interleaving, replay and joined checks. Assumes nothing.
 use Rattle.std.specs.Prelude.{ℕ, List, [], ◌∷◌, length, replicate, Option, Some, None}
+use Rattle.bits.specs.Bytes.{low_bits}
 use Rattle.bits.specs.Calls as rule
 use Rattle.block.specs.Answers as block
 use Rattle.frame.specs.Answers as frame
@@ -15,6 +16,9 @@ use Rattle.answers.specs.declared.ValueNumbers.{ValueNumbers}
 use Rattle.answers.specs.declared.VerdictNumbers.{VerdictNumbers}
 use Rattle.answers.specs.Numbers.{read_numbers, written_numbers, frame_numbers, verdict_numbers}
 use Rattle.sender_answers.specs.Numbers.{sender_numbers}
+use Rattle.cyclic.specs.Check.{Parameters}
+use Rattle.joining.specs.Joining.{join}
+use Rattle.join_answers.specs.Numbers.{join_numbers}
 use Rattle.block.specs.declared.Link.{Link}
 use Rattle.frame.specs.declared.FrameMethod.{FrameMethod}
 use Rattle.codes.specs.declared.Format.{Format}
@@ -177,3 +181,9 @@ after_service call station c notes = service_by call.answer station c notes call
 
 abbrev pub replay_service_call : ℕ → ℕ → List ℕ → List ℕ → Station → ℕ → List ℕ → ReplayCall
 replay_service_call n w trace store station c notes = after_service (service_call n w trace store) station c notes
+
+-- ---- joined checks
+
+-- of a method of w bits, both checks and both lengths; no output is lent
+abbrev pub join_call : Parameters → ℕ → ℕ → ℕ → ℕ → ℕ → Call
+join_call m w first j second k = value_call (join_numbers (join m (low_bits w first) j (low_bits w second) k)) []

@@ -1,5 +1,5 @@
-// The calls of the library for C and Rust: reading and writing blocks and frames, the number check, the sender, interleaving, replay and the
-// checks of methods 3 to 6. Crate `corridor_c` exports them. Methods, shapes and refusals go by document
+// The calls of the library for C and Rust: reading and writing blocks and frames, the number check, the sender, interleaving, replay, the
+// checks of methods 3 to 6 and those of two parts joined. Crate `corridor_c` exports them. Methods, shapes and refusals go by document
 // 01's numbers; 0 is success. Every input is taken: a code outside its list answers 1, with an answer of zeros. The output keeps every
 // byte that a success does not name. Bit 0 of a check is its highest power and is sent first.
 #![tactic(auto)]
@@ -17,6 +17,7 @@ use cyclic6::Cyclic6;
 mod blocks;
 mod frames;
 mod interleaving;
+mod joins;
 mod numbers;
 mod replays;
 mod senders;
@@ -24,6 +25,7 @@ mod senders;
 pub use blocks::{corridor_read_block, corridor_write_block};
 pub use frames::{corridor_read_frame, corridor_write_frame};
 pub use interleaving::{corridor_deinterleave, corridor_interleave};
+pub use joins::{corridor_join_3, corridor_join_4, corridor_join_5, corridor_join_6};
 pub use numbers::corridor_receive;
 pub use replays::{corridor_replay_panel, corridor_replay_service};
 pub use senders::{corridor_acknowledge, corridor_submit};

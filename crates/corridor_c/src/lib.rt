@@ -5,7 +5,7 @@
 ghost use Rattle.std.specs.Prelude.{◌≡◌, [], ◌∷◌};
 ghost use Rattle.bits.specs.Bytes.{low_bits, bits_of};
 ghost use Rattle.cyclic.specs.Check.{check_bits, method3, method4, method5, method6};
-ghost use Rattle.corridor.specs.Calls.{called, read_block_call, write_block_call, read_frame_call, write_frame_call, receive_call, station_called, submit_call, acknowledge_call, interleave_call, deinterleave_call, replay_called, replay_panel_call, replay_service_call};
+ghost use Rattle.corridor.specs.Calls.{called, read_block_call, write_block_call, read_frame_call, write_frame_call, receive_call, station_called, submit_call, acknowledge_call, interleave_call, deinterleave_call, replay_called, replay_panel_call, replay_service_call, join_call};
 
 use sender::Station;
 
@@ -198,4 +198,56 @@ pub extern "C" fn corridor_replay_service(
         &mut *notes,
         &mut *value,
     )
+}
+
+#[unsafe(no_mangle)]
+pub extern "C" fn corridor_join_3(
+    first: u16,
+    first_length: usize,
+    second: u16,
+    second_length: usize,
+    value: &mut usize,
+) -> u32
+    ensures { called result (value.new ∷ []) [] ≡ join_call method3 16 first first_length second second_length }
+{
+    corridor::corridor_join_3(first, first_length, second, second_length, &mut *value)
+}
+
+#[unsafe(no_mangle)]
+pub extern "C" fn corridor_join_4(
+    first: u16,
+    first_length: usize,
+    second: u16,
+    second_length: usize,
+    value: &mut usize,
+) -> u32
+    ensures { called result (value.new ∷ []) [] ≡ join_call method4 16 first first_length second second_length }
+{
+    corridor::corridor_join_4(first, first_length, second, second_length, &mut *value)
+}
+
+#[unsafe(no_mangle)]
+pub extern "C" fn corridor_join_5(
+    first: u16,
+    first_length: usize,
+    second: u16,
+    second_length: usize,
+    value: &mut usize,
+) -> u32
+    ensures { called result (value.new ∷ []) [] ≡ join_call method5 16 first first_length second second_length }
+{
+    corridor::corridor_join_5(first, first_length, second, second_length, &mut *value)
+}
+
+#[unsafe(no_mangle)]
+pub extern "C" fn corridor_join_6(
+    first: u32,
+    first_length: usize,
+    second: u32,
+    second_length: usize,
+    value: &mut usize,
+) -> u32
+    ensures { called result (value.new ∷ []) [] ≡ join_call method6 32 first first_length second second_length }
+{
+    corridor::corridor_join_6(first, first_length, second, second_length, &mut *value)
 }

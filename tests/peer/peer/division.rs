@@ -99,6 +99,13 @@ impl Rule {
         }
     }
 
+    /// The remainder of first·x^bits plus second, all in the order sent.
+    pub fn joined(&self, first: &[bool], second: &[bool], bits: usize) -> Vec<bool> {
+        let moved = Polynomial::of_sent(first).times_x_to(bits);
+        let sum = moved.plus(&Polynomial::of_sent(second));
+        sum.remainder(self.generator).sent()
+    }
+
     /// The receiver's judgement of content and check as received: formulas
     /// (8), (14) or (19) give the one remainder of a sound line. It is worked
     /// out from x^width·L(x), since the constant printed in appendix 2 is not
@@ -128,8 +135,12 @@ impl Rule {
 
     /// The check of whole bytes as a number, its first bit sent in bit 0.
     pub fn number(&self, content: &[u8]) -> u32 {
-        let check = self.check(&bits::of_bytes(content));
-        let weigh = |(power, bit): (usize, &bool)| u32::from(*bit) << power;
-        check.iter().enumerate().map(weigh).sum()
+        number_of(&self.check(&bits::of_bytes(content)))
     }
+}
+
+/// The number whose bits these are, the first in bit 0.
+pub fn number_of(check: &[bool]) -> u32 {
+    let weigh = |(power, bit): (usize, &bool)| u32::from(*bit) << power;
+    check.iter().enumerate().map(weigh).sum()
 }

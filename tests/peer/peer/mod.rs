@@ -13,6 +13,7 @@ pub mod division;
 pub mod frame;
 pub mod grammar;
 pub mod interleave;
+pub mod join;
 pub mod number;
 pub mod replay;
 pub mod sender;

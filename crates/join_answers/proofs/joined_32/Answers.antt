@@ -1,0 +1,7 @@
+-- `joined_32` meets its contract: the check's number is the value of its bits. Assumes nothing.
+use Rattle.std.proofs.Common.{rules}
+use Rattle.join_answers.proofs.Values.{joined_value}
+use Rattle.join_answers.proofs.joined_32.Goals as goal
+
+pub returns-in-Ok : goal.returns-in-Ok
+returns-in-Ok c = joined_value 32 c.in-Ok.check (search rules) c.in-Ok.is c.numbers.ensures

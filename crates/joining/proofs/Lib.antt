@@ -1,0 +1,5 @@
+pub mod Joined
+pub mod Contents
+pub mod Starts
+pub mod Answering
+pub mod OneToOne
