@@ -196,6 +196,32 @@ impl Agreement<'_> {
         });
     }
 
+    /// A content as it is written and a block as it is read, sound, with a bit
+    /// changed, or of any bytes.
+    fn fixed_round(&mut self, random: &mut Random) {
+        let degree = random.of(&[8, 16, 24, 24, 32]);
+        let length = random.below(if degree == 24 { 258 } else { 18 });
+        let content = random.bytes(length);
+        let room = length + random.below(6);
+        let what = || format!("write_fixed {degree} {room} {content:02X?}");
+        self.same(&what, room, &|calls, out, values| {
+            calls.write_fixed(degree, &content, out, &mut values[0])
+        });
+        let (mut block, mut length) = (vec![0; content.len() + 3], 0);
+        if LIBRARY.write_fixed(degree, &content, &mut block, &mut length) == 0 {
+            block.truncate(length);
+        }
+        if random.once_in(3) {
+            let place = random.below(8 * block.len());
+            block[place / 8] ^= 1 << (place % 8);
+        }
+        let room = (block.len() + 2).saturating_sub(random.below(6));
+        let what = || format!("read_fixed {degree} {room} {block:02X?}");
+        self.same(&what, room, &|calls, out, values| {
+            calls.read_fixed(degree, &block, out, &mut values[0])
+        });
+    }
+
     fn block_round(&mut self, random: &mut Random, longest: usize) {
         let link = lines::link(random, Code::Koi7);
         let parts = lines::parts(random, link, longest);
@@ -313,6 +339,7 @@ pub fn run(peers: &[&'static Calls]) -> u64 {
         agreement.interleave_round(&mut random, if long { 4_200 } else { 70 });
         agreement.replay_round(&mut random);
         agreement.joins(&mut random);
+        agreement.fixed_round(&mut random);
     }
     agreement.limits(&mut random);
     agreement.numbers();

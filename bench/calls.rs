@@ -44,6 +44,8 @@ pub struct Calls {
     interleave: Interleave,
     deinterleave: Interleave,
     replay_panel: ReplayPanel,
+    write_fixed: WriteFrame,
+    read_fixed: WriteFrame,
     check_3: Check16,
     check_4: Check16,
     check_5: Check16,
@@ -101,6 +103,8 @@ impl Calls {
     by_slices! { read_block(method: u8, parity: u8, code: u8; line) [usize; 5] }
     by_slices! { read_frame(method: u8, bits: usize; lent) usize }
     by_slices! { write_frame(method: u8; content) usize }
+    by_slices! { write_fixed(degree: u8; content) usize }
+    by_slices! { read_fixed(degree: u8; block) usize }
 
     #[inline(always)]
     pub fn write_block(&self, form: &Form, out: &mut [u8], value: &mut usize) -> u32 {
@@ -227,11 +231,12 @@ impl Calls {
     }
 }
 
-/// Declares the eighteen functions of a linked library and gathers them.
+/// Declares the twenty functions of a linked library and gathers them.
 macro_rules! linked {
     ($calls:ident, $name:literal, $read_block:ident, $write_block:ident, $read_frame:ident, $write_frame:ident,
      $receive:ident, $submit:ident, $acknowledge:ident, $interleave:ident, $deinterleave:ident,
      $replay_panel:ident,
+     $write_fixed:ident, $read_fixed:ident,
      $check_3:ident, $check_4:ident, $check_5:ident, $check_6:ident,
      $join_3:ident, $join_4:ident, $join_5:ident, $join_6:ident) => {
         #[rustfmt::skip]
@@ -249,6 +254,8 @@ macro_rules! linked {
             fn $deinterleave(_: usize, _: *const u8, _: usize, _: *mut u8, _: usize) -> u32;
             fn $replay_panel(_: u8, _: u8, _: *const u8, _: usize, _: *mut u8, _: usize,
                 _: *mut Station, _: *mut u8, _: *mut usize) -> u32;
+            fn $write_fixed(_: u8, _: *const u8, _: usize, _: *mut u8, _: usize, _: *mut usize) -> u32;
+            fn $read_fixed(_: u8, _: *const u8, _: usize, _: *mut u8, _: usize, _: *mut usize) -> u32;
             fn $check_3(_: *const u8, _: usize) -> u16;
             fn $check_4(_: *const u8, _: usize) -> u16;
             fn $check_5(_: *const u8, _: usize) -> u16;
@@ -270,6 +277,8 @@ macro_rules! linked {
             interleave: $interleave,
             deinterleave: $deinterleave,
             replay_panel: $replay_panel,
+            write_fixed: $write_fixed,
+            read_fixed: $read_fixed,
             check_3: $check_3,
             check_4: $check_4,
             check_5: $check_5,
@@ -286,12 +295,14 @@ macro_rules! linked {
 linked!(LIBRARY, "library", corridor_read_block, corridor_write_block, corridor_read_frame, corridor_write_frame,
     corridor_receive, corridor_submit, corridor_acknowledge, corridor_interleave, corridor_deinterleave,
     corridor_replay_panel,
+    corridor_write_fixed, corridor_read_fixed,
     corridor_check_3, corridor_check_4, corridor_check_5, corridor_check_6,
     corridor_join_3, corridor_join_4, corridor_join_5, corridor_join_6);
 #[rustfmt::skip]
 linked!(PLAIN_C, "C", plain_read_block, plain_write_block, plain_read_frame, plain_write_frame,
     plain_receive, plain_submit, plain_acknowledge, plain_interleave, plain_deinterleave,
     plain_replay_panel,
+    plain_write_fixed, plain_read_fixed,
     plain_check_3, plain_check_4, plain_check_5, plain_check_6,
     plain_join_3, plain_join_4, plain_join_5, plain_join_6);
 
@@ -307,6 +318,8 @@ pub static RUST: Calls = Calls {
     interleave: shell::interleave,
     deinterleave: shell::deinterleave,
     replay_panel: shell::replay_panel,
+    write_fixed: shell::write_fixed,
+    read_fixed: shell::read_fixed,
     check_3: shell::check_3,
     check_4: shell::check_4,
     check_5: shell::check_3,

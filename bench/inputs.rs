@@ -248,6 +248,31 @@ pub fn replay_panel(random: &mut Random, records: usize) -> Case {
     })
 }
 
+/// Contents of fixed blocks.
+pub fn write_fixed(random: &mut Random, degree: u8, length: usize) -> Case {
+    let contents = several(length, || random.bytes(length));
+    let (mut out, mut value) = (vec![0; length + 3], 0);
+    in_turn(contents, move |calls, content| {
+        black_box(calls.write_fixed(degree, content, &mut out, &mut value));
+        black_box((&out, &value));
+    })
+}
+
+/// Fixed blocks with so many bytes of content.
+pub fn read_fixed(random: &mut Random, degree: u8, length: usize) -> Case {
+    let blocks = several(length, || {
+        let (mut block, mut value) = (vec![0; length + usize::from(degree) / 8], 0);
+        let number = LIBRARY.write_fixed(degree, &random.bytes(length), &mut block, &mut value);
+        assert_eq!(number, 0);
+        block
+    });
+    let (mut out, mut value) = (vec![0; length], 0);
+    in_turn(blocks, move |calls, block| {
+        black_box(calls.read_fixed(degree, block, &mut out, &mut value));
+        black_box((&out, &value));
+    })
+}
+
 pub fn check(random: &mut Random, method: u8, length: usize) -> Case {
     in_turn(
         several(length, || random.bytes(length)),

@@ -31,6 +31,7 @@ const LONG: [usize; 5] = [16, 64, 256, 4_096, 65_536];
 const STORED: [usize; 2] = [16, 4_095];
 const SPREAD: [usize; 3] = [64, 4_096, 65_536];
 const RECORDS: [usize; 3] = [16, 256, 4_096];
+const FIXED: [usize; 3] = [4, 14, 253];
 
 const MEANING: &str =
     "A ratio is the time of the proved call divided by the peer's: smaller is better. Times are the
@@ -197,6 +198,28 @@ fn replays(random: &mut Random, word: &str) -> Table {
     }
 }
 
+/// Only degree 24 has blocks of more than 16 bytes.
+fn fixed_blocks(random: &mut Random, word: &str) -> Table {
+    let mut rows = Rows::of(word);
+    for (degree, lengths) in [(8, &FIXED[..2]), (16, &FIXED[..2]), (24, &FIXED[..])] {
+        rows.add(
+            &format!("write_fixed  degree {degree}"),
+            lengths,
+            |length| inputs::write_fixed(random, degree, length),
+        );
+        rows.add(
+            &format!("read_fixed   degree {degree}"),
+            lengths,
+            |length| inputs::read_fixed(random, degree, length),
+        );
+    }
+    Table {
+        title: "fixed blocks, by bytes of content",
+        lengths: &FIXED,
+        rows: rows.rows,
+    }
+}
+
 fn checks(random: &mut Random, word: &str, found: Found) -> Table {
     let mut rows = Rows::of(word);
     for method in 3..=6 {
@@ -265,6 +288,7 @@ fn main() -> ExitCode {
         submissions(random, &word),
         interleaving(random, &word),
         replays(random, &word),
+        fixed_blocks(random, &word),
         checks(random, &word, found),
         joins(random, &word, found),
     ];

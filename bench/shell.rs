@@ -144,6 +144,14 @@ pub unsafe extern "C" fn replay_panel(
     answered(end.map(|told| { (*station, *c) = told; [0] }), value)
 }
 
+call! { write_fixed(degree: u8; content[content_length]; out[room])
+    peer_fast::write_fixed(degree, content, out).map(|length| [length])
+}
+
+call! { read_fixed(degree: u8; block[block_length]; out[room])
+    peer_fast::read_fixed(degree, block, out).map(|length| [length])
+}
+
 pub unsafe extern "C" fn check_3(content: *const u8, length: usize) -> u16 {
     peer_fast::check_3(slice::from_raw_parts(content, length))
 }

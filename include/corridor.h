@@ -1,6 +1,6 @@
 /*
- * corridor.h - blocks, frames and their checks by GOST 28082-89, and texts
- * spread over a line.
+ * corridor.h - blocks, frames and their checks by GOST 28082-89, texts spread
+ * over a line, and fixed blocks by GOST 17422-82.
  *
  * The library allocates nothing, keeps no state and calls nothing back: each
  * call works on what the caller lends it and may run in any thread, as long as
@@ -17,8 +17,9 @@
  *   the lent output holds every byte it held before; after a success it holds
  *   the result from its first byte on, and bytes past the result keep what
  *   they held.
- *   A number outside its list (method, parity, code, shape, end sign) returns 1
- *   from any call: the output is untouched and the answer is all zeros.
+ *   A number outside its list (method, parity, code, shape, end sign, degree)
+ *   returns 1 from any call: the output is untouched and the answer is all
+ *   zeros.
  *   All other input, of any length and any content, gets a full answer.
  *
  * COUNTS AND PLACES
@@ -45,6 +46,11 @@ extern "C" {
 /* Methods of a frame. */
 #define CORRIDOR_FRAME_16 5 /* the 16-bit check of appendix 1 */
 #define CORRIDOR_FRAME_32 6 /* the 32-bit check of appendix 2 */
+
+/* Polynomials of a fixed block, by their degrees. */
+#define CORRIDOR_DEGREE_8 8   /* x^8+x^2+x+1 */
+#define CORRIDOR_DEGREE_16 16 /* x^16+x^15+x^13+x^11+x^5+x^3+x+1 */
+#define CORRIDOR_DEGREE_24 24 /* x^24+x^22+x^12+x^10+x^9+x^2+x+1 */
 
 /* Parity of every byte under methods 1, 2 and 7. Methods 3 and 4 carry none;
  * the number still has to be one of the two. */
@@ -87,6 +93,9 @@ extern "C" {
 #define CORRIDOR_LONGEST_COUNT 4096       /* counted bytes of a block */
 #define CORRIDOR_LONGEST_CONTENT_16 4096  /* content bytes, method 5 */
 #define CORRIDOR_LONGEST_CONTENT_32 65536 /* content bytes, method 6 */
+#define CORRIDOR_LONGEST_FIXED_8 16       /* bytes of a fixed block, its */
+#define CORRIDOR_LONGEST_FIXED_16 16      /* check included, by degree */
+#define CORRIDOR_LONGEST_FIXED_24 256
 #define CORRIDOR_CELL 4096                /* bytes of a cell of a store */
 #define CORRIDOR_LONGEST_STORED 4095      /* bytes of a block in a store */
 #define CORRIDOR_RECORD 16                /* bytes of a record of a trace */
@@ -382,6 +391,43 @@ uint32_t corridor_replay_service(uint8_t n, uint8_t w,
                                  corridor_station *station, uint8_t *c,
                                  uint8_t notes[CORRIDOR_NOTES],
                                  size_t *value);
+
+/*
+ * Writes one fixed block: the content, then its check of as many bits as the
+ * degree, the inverted remainder without starting ones, in the order sent.
+ *
+ *   degree       CORRIDOR_DEGREE_8, CORRIDOR_DEGREE_16 or CORRIDOR_DEGREE_24
+ *   content      any bytes, at least one
+ *   out          takes the block: 1, 2 or 3 bytes more than the content
+ *
+ * Returns 0:     *value is the length of the block in bytes
+ * Otherwise *value is the value named here, else 0:
+ *   64  no content byte
+ *   65  the block, its check included, would be over its length: 16, 16 or
+ *       256 bytes
+ *    6  out is too short; bytes needed
+ */
+uint32_t corridor_write_fixed(uint8_t degree,
+                              const uint8_t *content, size_t content_length,
+                              uint8_t *out, size_t out_length, size_t *value);
+
+/*
+ * Reads one fixed block, which is all the bytes lent.
+ *
+ *   degree       as for corridor_write_fixed
+ *   block        content and check
+ *   out          takes the content: 1, 2 or 3 bytes fewer than the block
+ *
+ * Returns 0:     *value is the length of the content in bytes
+ * Otherwise *value is the value named here, else 0:
+ *   64  no content byte beside the check
+ *   65  the block is over its length
+ *   18  the check is not that of the content
+ *   19  out is too short; bytes needed
+ */
+uint32_t corridor_read_fixed(uint8_t degree,
+                             const uint8_t *block, size_t block_length,
+                             uint8_t *out, size_t out_length, size_t *value);
 
 /*
  * The cyclic check of a content, for a method 3, 4, 5 or 6. Bit 0 of the

@@ -12,6 +12,8 @@
 #define corridor_interleave plain_interleave
 #define corridor_deinterleave plain_deinterleave
 #define corridor_replay_panel plain_replay_panel
+#define corridor_write_fixed plain_write_fixed
+#define corridor_read_fixed plain_read_fixed
 #define corridor_check_3 plain_check_3
 #define corridor_check_4 plain_check_4
 #define corridor_check_5 plain_check_5

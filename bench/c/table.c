@@ -3,6 +3,7 @@
 #include "table.h"
 
 uint32_t table_3[256], table_4[256], table_6[256];
+uint32_t table_fixed_8[256], table_fixed_16[256], table_fixed_24[256];
 
 static uint32_t entry(uint32_t k, uint32_t polynomial)
 {
@@ -17,6 +18,9 @@ void table_init(void)
         table_3[k] = entry(k, 0x8408);
         table_4[k] = entry(k, 0xa001);
         table_6[k] = entry(k, 0xedb88320);
+        table_fixed_8[k] = entry(k, 0xe0);
+        table_fixed_16[k] = entry(k, 0xd415);
+        table_fixed_24[k] = entry(k, 0xe06802);
     }
 }
 

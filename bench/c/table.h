@@ -7,6 +7,9 @@
 /* By method; methods 3 and 5 share one. Filled by plain_init. */
 extern uint32_t table_3[256], table_4[256], table_6[256];
 
+/* Of fixed blocks, by degree. */
+extern uint32_t table_fixed_8[256], table_fixed_16[256], table_fixed_24[256];
+
 static inline uint32_t enter(const uint32_t *table, uint32_t reg, uint8_t byte)
 {
     return table[(reg ^ byte) & 255] ^ (reg >> 8);

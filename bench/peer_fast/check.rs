@@ -19,6 +19,9 @@ const fn table(polynomial: u32) -> [u32; 256] {
 static TABLE_1: [u32; 256] = table(0x8408);
 static TABLE_2: [u32; 256] = table(0xEDB8_8320);
 static TABLE_3: [u32; 256] = table(0xA001);
+static TABLE_FIXED_8: [u32; 256] = table(0xE0);
+static TABLE_FIXED_16: [u32; 256] = table(0xD415);
+static TABLE_FIXED_24: [u32; 256] = table(0xE0_6802);
 
 /// What counted bytes enter on the way through a line.
 pub trait Check: Copy {
@@ -79,7 +82,7 @@ impl Check for Sum {
     }
 }
 
-/// A register and whether it starts as ones and is inverted at the end.
+/// A register, and the ones that are added at the end.
 #[derive(Clone, Copy)]
 pub struct Register {
     table: &'static [u32; 256],
@@ -97,9 +100,19 @@ impl Check for Register {
 }
 
 impl Register {
+    /// It starts as the ones that are added at the end.
     const fn of(table: &'static [u32; 256], ones: u32) -> Register {
         let value = ones;
         Register { table, value, ones }
+    }
+
+    /// It starts empty.
+    const fn empty(table: &'static [u32; 256], ones: u32) -> Register {
+        Register {
+            table,
+            value: 0,
+            ones,
+        }
     }
 
     /// The check of what has entered, its first bit sent in bit 0.
@@ -112,6 +125,11 @@ impl Register {
 pub const APPENDIX_1: Register = Register::of(&TABLE_1, 0xFFFF);
 pub const APPENDIX_2: Register = Register::of(&TABLE_2, 0xFFFF_FFFF);
 pub const APPENDIX_3: Register = Register::of(&TABLE_3, 0);
+
+/// Fixed blocks, by degree.
+pub const FIXED_8: Register = Register::empty(&TABLE_FIXED_8, 0xFF);
+pub const FIXED_16: Register = Register::empty(&TABLE_FIXED_16, 0xFFFF);
+pub const FIXED_24: Register = Register::empty(&TABLE_FIXED_24, 0xFF_FFFF);
 
 fn whole(mut register: Register, content: &[u8]) -> u32 {
     register.enter_all(content);

@@ -5,6 +5,7 @@
 
 mod block;
 mod check;
+mod fixed;
 mod frame;
 mod grammar;
 mod interleave;
@@ -16,6 +17,7 @@ mod signs;
 
 pub use block::{read as read_block, write as write_block, Parts};
 pub use check::{check_3, check_4, check_6};
+pub use fixed::{read as read_fixed, write as write_fixed};
 pub use frame::{read as read_frame, write as write_frame};
 pub use interleave::{deinterleave, interleave};
 pub use join::{join_3, join_4, join_6};

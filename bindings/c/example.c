@@ -1,8 +1,9 @@
 /*
  * Writes a block, reads it back, does the same under DKOI, writes and reads a
  * frame, judges a number, keeps blocks until they are acknowledged, spreads a
- * text over a line, replays a recorded line and joins the checks of two parts.
- * Every step is checked; the program ends with 1 where one fails.
+ * text over a line, replays a recorded line, joins the checks of two parts and
+ * writes a fixed block. Every step is checked; the program ends with 1 where
+ * one fails.
  */
 #include "corridor.h"
 
@@ -234,6 +235,28 @@ static void joined(void)
     printf("joined: %08zX, refused 63\n", (size_t)corridor_check_6(whole, sizeof whole));
 }
 
+/* A fixed block of degree 16, there and back; a changed bit is found. */
+static void fixed_block(void)
+{
+    const uint8_t content[] = {'1'};
+    uint8_t block[3];
+    uint8_t out[1];
+    size_t length;
+
+    uint32_t number = corridor_write_fixed(CORRIDOR_DEGREE_16, content,
+                                           sizeof content, block, sizeof block,
+                                           &length);
+    expect(number == 0 && length == sizeof block, "the block is written");
+    expect(block[1] == 0xB7 && block[2] == 0x1A, "its check");
+    number = corridor_read_fixed(CORRIDOR_DEGREE_16, block, sizeof block, out,
+                                 sizeof out, &length);
+    expect(number == 0 && length == 1 && out[0] == '1', "the block is taken");
+    print_bytes("fixed block", block, sizeof block);
+    block[2] ^= 0x80;
+    expect(corridor_read_fixed(CORRIDOR_DEGREE_16, block, sizeof block, out,
+                               sizeof out, &length) == 18, "it is refused");
+}
+
 int main(void)
 {
     const uint8_t digits[] = {'1', '2', '3', '4', '5', '6', '7', '8', '9'};
@@ -246,6 +269,7 @@ int main(void)
     interleaving();
     replay();
     joined();
+    fixed_block();
     expect(corridor_check_3(digits, sizeof digits) == 0x906E, "check 3");
     expect(corridor_check_6(digits, sizeof digits) == 0xCBF43926, "check 6");
     return failures == 0 ? 0 : 1;

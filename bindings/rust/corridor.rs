@@ -1,6 +1,7 @@
 //! Safe Rust calls over the C interface of the corridor library: blocks
 //! (methods 1 to 4 and 7), frames (methods 5 and 6), the number check, the
-//! sender, interleaving, replay, the cyclic checks of GOST 28082-89 and those of two parts joined.
+//! sender, interleaving, replay, the cyclic checks of GOST 28082-89 and those of
+//! two parts joined, and fixed blocks of GOST 17422-82.
 //!
 //! The calls allocate nothing. Every call finishes with a full result or with
 //! a [`Refusal`]; after a refusal the lent output holds what it held before,
@@ -34,6 +35,18 @@ pub enum FrameMethod {
     Cyclic16 = 5,
     /// Method 6: the 32-bit check of appendix 2.
     Cyclic32 = 6,
+}
+
+/// The polynomial of a fixed block, by its degree: the check has as many bits.
+#[derive(Clone, Copy, PartialEq, Eq, Debug)]
+#[repr(u8)]
+pub enum Degree {
+    /// x^8+x^2+x+1, blocks of up to 16 bytes.
+    Eight = 8,
+    /// x^16+x^15+x^13+x^11+x^5+x^3+x+1, blocks of up to 16 bytes.
+    Sixteen = 16,
+    /// x^24+x^22+x^12+x^10+x^9+x^2+x+1, blocks of up to 256 bytes.
+    TwentyFour = 24,
 }
 
 /// The parity of every byte under methods 1, 2 and 7; without effect on 3 and
@@ -323,6 +336,22 @@ pub fn replay_service(
         awaited,
         notes,
     })
+}
+
+/// Writes the fixed block of a content to the start of `out` and gives its
+/// length. The check stands behind the content.
+pub fn write_fixed(degree: Degree, content: &[u8], out: &mut [u8]) -> Result<usize, Refusal> {
+    let mut value = 0;
+    let number = codes::write_fixed(degree as u8, content, out, &mut value);
+    value_of(number, value)
+}
+
+/// Reads a fixed block; gives the number of content bytes, which stand at the
+/// start of `out`.
+pub fn read_fixed(degree: Degree, block: &[u8], out: &mut [u8]) -> Result<usize, Refusal> {
+    let mut value = 0;
+    let number = codes::read_fixed(degree as u8, block, out, &mut value);
+    value_of(number, value)
 }
 
 /// The check of method 3; bit 0 is its highest power, the first bit sent.
@@ -625,6 +654,31 @@ pub mod codes {
         // SAFETY: as in `join_3`.
         unsafe { interface::corridor_join_6(first.0, first.1, second.0, second.1, value) }
     }
+
+    /// `corridor_write_fixed`
+    pub fn write_fixed(degree: u8, content: &[u8], out: &mut [u8], value: &mut usize) -> u32 {
+        let (room, out) = (out.len(), out.as_mut_ptr());
+        // SAFETY: as in `read_block`.
+        unsafe {
+            interface::corridor_write_fixed(
+                degree,
+                content.as_ptr(),
+                content.len(),
+                out,
+                room,
+                value,
+            )
+        }
+    }
+
+    /// `corridor_read_fixed`
+    pub fn read_fixed(degree: u8, block: &[u8], out: &mut [u8], value: &mut usize) -> u32 {
+        let (room, out) = (out.len(), out.as_mut_ptr());
+        // SAFETY: as in `read_block`.
+        unsafe {
+            interface::corridor_read_fixed(degree, block.as_ptr(), block.len(), out, room, value)
+        }
+    }
 }
 
 /// The C interface as `include/corridor.h` declares it.
@@ -728,6 +782,22 @@ mod interface {
             station: *mut Station,
             c: *mut u8,
             notes: *mut u8,
+            value: *mut usize,
+        ) -> u32;
+        pub fn corridor_write_fixed(
+            degree: u8,
+            content: *const u8,
+            content_length: usize,
+            out: *mut u8,
+            out_length: usize,
+            value: *mut usize,
+        ) -> u32;
+        pub fn corridor_read_fixed(
+            degree: u8,
+            block: *const u8,
+            block_length: usize,
+            out: *mut u8,
+            out_length: usize,
             value: *mut usize,
         ) -> u32;
         pub fn corridor_check_3(content: *const u8, length: usize) -> u16;

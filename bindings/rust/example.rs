@@ -1,12 +1,13 @@
 //! Writes a block, reads it back, does the same under DKOI, sends a frame over,
 //! judges a number, keeps blocks until they are acknowledged, spreads a text
-//! over a line, replays a recorded line and joins the checks of two parts.
+//! over a line, replays a recorded line, joins the checks of two parts and
+//! writes a fixed block.
 
 #[allow(dead_code)]
 mod corridor;
 
-use corridor::{Arrival, BlockMethod, Code, EndSign, FrameMethod, Link, Parity, Part, Refusal};
-use corridor::{Shape, Station, CELL, RECORD};
+use corridor::{Arrival, BlockMethod, Code, Degree, EndSign, FrameMethod, Link, Parity, Part};
+use corridor::{Refusal, Shape, Station, CELL, RECORD};
 
 /// The matrix with even parity, which carries KOI-7 alone.
 const MATRIX: Link = Link {
@@ -41,6 +42,7 @@ fn run() -> Result<(), Refusal> {
     interleaved()?;
     replay()?;
     joined()?;
+    fixed_block()?;
     println!("check of method 3: {:04X}", corridor::check_3(b"123456789"));
     Ok(())
 }
@@ -153,5 +155,21 @@ fn joined() -> Result<(), Refusal> {
     let check = corridor::join_6(part(b"COVER LIST "), part(b"7B ROOM 12"))?;
     assert_eq!(check, corridor::check_6(b"COVER LIST 7B ROOM 12"));
     println!("joined: {check:08X}");
+    Ok(())
+}
+
+/// A list of one sign for a bell unit; of degree 8, a changed bit is found.
+fn fixed_block() -> Result<(), Refusal> {
+    let mut block = [0; 2];
+    let length = corridor::write_fixed(Degree::Eight, b"1", &mut block)?;
+    assert_eq!((length, block), (2, [0x31, 0x4A]));
+    let mut content = [0; 1];
+    let length = corridor::read_fixed(Degree::Eight, &block, &mut content)?;
+    assert_eq!((length, content), (1, *b"1"));
+    block[0] ^= 1;
+    let damaged = corridor::read_fixed(Degree::Eight, &block, &mut content);
+    let (number, value) = (18, 0);
+    assert_eq!(damaged, Err(Refusal { number, value }));
+    println!("fixed block: 31 4A, damaged {damaged:?}");
     Ok(())
 }

@@ -13,6 +13,7 @@
 #[path = "../../bindings/rust/corridor.rs"]
 mod corridor;
 mod expected;
+mod fixed_blocks;
 mod forms;
 mod frames;
 mod generated;
@@ -85,6 +86,9 @@ fn main() -> ExitCode {
     });
     stage("joined checks", tried, |judge| {
         joins::run(&mut judge.tally, &mut random)
+    });
+    stage("fixed blocks", tried, |judge| {
+        fixed_blocks::run(&mut judge.tally, &mut random)
     });
     judge.tally.print();
     let missing = judge.tally.missing();

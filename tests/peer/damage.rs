@@ -1,5 +1,5 @@
-//! What could not be tested by hand: damage to lines and frames, read by the
-//! library's own readers.
+//! What could not be tested by hand: damage to lines, frames and fixed blocks,
+//! read by the library's own readers.
 //!
 //! ```text
 //! damage [--seconds N] [--all] [--threads N]
@@ -16,6 +16,7 @@ mod burst;
 mod corridor;
 mod counts;
 mod diagonals;
+mod fixed_damage;
 #[allow(dead_code)]
 mod frames;
 #[allow(dead_code)]
@@ -47,6 +48,7 @@ fn main() -> ExitCode {
     substitution::run();
     burst::run();
     diagonals::run();
+    fixed_damage::run();
     syndromes::run();
     pairs::shorter();
     if arguments.all {

@@ -15,9 +15,11 @@ pub enum Call {
     ReplayPanel,
     ReplayService,
     Join,
+    WriteFixed,
+    ReadFixed,
 }
 
-const CALLS: [(Call, &str, &[usize]); 12] = [
+const CALLS: [(Call, &str, &[usize]); 14] = [
     (Call::ReadBlock, "read a block", &[1, 2, 3, 4, 7]),
     (Call::WriteBlock, "write a block", &[1, 2, 3, 4, 7]),
     (Call::ReadFrame, "read a frame", &[5, 6]),
@@ -30,6 +32,8 @@ const CALLS: [(Call, &str, &[usize]); 12] = [
     (Call::ReplayPanel, "replay, panel", &[]),
     (Call::ReplayService, "replay, service", &[]),
     (Call::Join, "join two checks", &[3, 4, 5, 6]),
+    (Call::WriteFixed, "write fixed", &[]),
+    (Call::ReadFixed, "read fixed", &[]),
 ];
 
 /// Every number that documents 01 and 02 give to a question of the call.
@@ -45,10 +49,12 @@ fn questions(call: Call) -> &'static [usize] {
         Call::Interleave | Call::Deinterleave => &[59, 60],
         Call::ReplayPanel | Call::ReplayService => &[41, 51, 6, 61, 62],
         Call::Join => &[63],
+        Call::WriteFixed => &[1, 64, 65, 6],
+        Call::ReadFixed => &[1, 64, 65, 18, 19],
     }
 }
 
-const NUMBERS: usize = 64;
+const NUMBERS: usize = 66;
 
 /// Methods 1 to 7, and 0 for every other code.
 const METHODS: usize = 8;

@@ -1,5 +1,5 @@
--- The numbers that C passes: document 01's numbers of methods and shapes, 0 and 1 for parity, 0 and 1 for KOI-7 and DKOI, and the end
--- signs by their bytes in KOI-7. Assumes nothing.
+-- The numbers that C passes: document 01's numbers of methods and shapes, 0 and 1 for parity, 0 and 1 for KOI-7 and DKOI, the end
+-- signs by their bytes in KOI-7, and the degrees of the polynomials of fixed blocks. Assumes nothing.
 use Rattle.std.specs.Prelude.{ℕ, cond, eqb, Option, Some, None}
 use Rattle.block.specs.declared.Method.{Method}
 use Rattle.block.specs.declared.Method.TheVariants as method
@@ -15,6 +15,8 @@ use Rattle.block.specs.declared.Code.TheVariants as characters
 use Rattle.block.specs.Signs.{koi7}
 use Rattle.frame.specs.declared.FrameMethod.{FrameMethod}
 use Rattle.frame.specs.declared.FrameMethod.TheVariants as frame
+use Rattle.fixed_block.specs.declared.Polynomial.{Polynomial}
+use Rattle.fixed_block.specs.declared.Polynomial.TheVariants as polynomial
 use Rattle.codes.specs.declared.Format.{Format}
 
 abbrev pub method_of : ℕ → Option Method
@@ -63,3 +65,8 @@ format_of s e = format_by (shape_of s) (end_of e)
 
 abbrev pub frame_method_of : ℕ → Option FrameMethod
 frame_method_of code = cond (eqb code 5) (Some frame.Cyclic16) (cond (eqb code 6) (Some frame.Cyclic32) None)
+
+abbrev pub polynomial_of : ℕ → Option Polynomial
+polynomial_of degree =
+    cond (eqb degree 8) (Some polynomial.Degree8)
+    (cond (eqb degree 16) (Some polynomial.Degree16) (cond (eqb degree 24) (Some polynomial.Degree24) None))

@@ -1,13 +1,14 @@
-// The numbers that C passes for a method, a parity, a code, a shape and an end sign: document 01's numbers of methods and shapes, 0 and
-// 1 for parity, 0 and 1 for KOI-7 and DKOI, and the end signs by their bytes in KOI-7. Every number is taken: one outside its list is
-// none of them. They stand here together, as the list of what C may pass, and not as a `TryFrom` beside each type in `block` and
-// `frame`.
+// The numbers that C passes for a method, a parity, a code, a shape, an end sign and a polynomial: document 01's numbers of methods and
+// shapes, 0 and 1 for parity, 0 and 1 for KOI-7 and DKOI, the end signs by their bytes in KOI-7, and polynomials by their degrees. Every
+// number is taken: one outside its list is none of them. They stand here together, as the list of what C may pass, and not as a
+// `TryFrom` beside each type in `block`, `frame` and `fixed_block`.
 #![tactic(auto)]
 
 ghost use Rattle.std.specs.Prelude.{◌≡◌};
-ghost use Rattle.codes.specs.Codes.{method_of, parity_of, characters_of, shape_of, end_of, link_of, format_of, frame_method_of};
+ghost use Rattle.codes.specs.Codes.{method_of, parity_of, characters_of, shape_of, end_of, link_of, format_of, frame_method_of, polynomial_of};
 
 use block::{Code, ETB, ETX, EndSign, Link, Method, Parity, Shape, US};
+use fixed_block::Polynomial;
 use frame::FrameMethod;
 
 // What a block to be written has.
@@ -102,6 +103,17 @@ pub fn frame_method_of(code: u8) -> Option<FrameMethod>
     match code {
         5 => Some(FrameMethod::Cyclic16),
         6 => Some(FrameMethod::Cyclic32),
+        _ => None,
+    }
+}
+
+pub fn polynomial_of(degree: u8) -> Option<Polynomial>
+    ensures { result ≡ polynomial_of degree }
+{
+    match degree {
+        8 => Some(Polynomial::Degree8),
+        16 => Some(Polynomial::Degree16),
+        24 => Some(Polynomial::Degree24),
         _ => None,
     }
 }

@@ -1,4 +1,5 @@
--- What the C calls answer, by the rules of blocks, frames, numbers, the sender, interleaving, replay and joined checks. Assumes nothing.
+-- What the C calls answer, by the rules of blocks, frames, numbers, the sender, interleaving, replay, joined checks and fixed blocks.
+-- Assumes nothing.
 use Rattle.std.specs.Prelude.{ℕ, List, [], ◌∷◌, length, replicate, Option, Some, None}
 use Rattle.bits.specs.Bytes.{low_bits}
 use Rattle.bits.specs.Calls as rule
@@ -19,10 +20,13 @@ use Rattle.sender_answers.specs.Numbers.{sender_numbers}
 use Rattle.cyclic.specs.Check.{Parameters}
 use Rattle.joining.specs.Joining.{join}
 use Rattle.join_answers.specs.Numbers.{join_numbers}
+use Rattle.fixed_block.specs.declared.Polynomial.{Polynomial}
+use Rattle.fixed_block.specs.Block as fixed
+use Rattle.fixed_answers.specs.Numbers.{fixed_numbers}
 use Rattle.block.specs.declared.Link.{Link}
 use Rattle.frame.specs.declared.FrameMethod.{FrameMethod}
 use Rattle.codes.specs.declared.Format.{Format}
-use Rattle.codes.specs.Codes.{link_of, format_of, frame_method_of}
+use Rattle.codes.specs.Codes.{link_of, format_of, frame_method_of, polynomial_of}
 
 -- the number that a call returns, and the answer and the output afterwards
 pub record Call : Type 0 where
@@ -187,3 +191,24 @@ replay_service_call n w trace store station c notes = after_service (service_cal
 -- of a method of w bits, both checks and both lengths; no output is lent
 abbrev pub join_call : Parameters → ℕ → ℕ → ℕ → ℕ → ℕ → Call
 join_call m w first j second k = value_call (join_numbers (join m (low_bits w first) j (low_bits w second) k)) []
+
+-- ---- fixed blocks
+
+abbrev pub fixed_call : rule.Call fixed.Answer → Call
+fixed_call c = value_call (fixed_numbers c.answer) c.output
+
+abbrev pub write_fixed_by : Option Polynomial → List ℕ → List ℕ → Call
+write_fixed_by None content out = unknown_code 1 out
+write_fixed_by (Some p) content out = fixed_call (fixed.write_call p content out)
+
+-- of `degree`, the content and the output
+abbrev pub write_fixed_call : ℕ → List ℕ → List ℕ → Call
+write_fixed_call d content out = write_fixed_by (polynomial_of d) content out
+
+abbrev pub read_fixed_by : Option Polynomial → List ℕ → List ℕ → Call
+read_fixed_by None block out = unknown_code 1 out
+read_fixed_by (Some p) block out = fixed_call (fixed.read_call p block out)
+
+-- of `degree`, the block and the output
+abbrev pub read_fixed_call : ℕ → List ℕ → List ℕ → Call
+read_fixed_call d block out = read_fixed_by (polynomial_of d) block out

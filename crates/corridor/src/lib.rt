@@ -1,7 +1,7 @@
-// The calls of the library for C and Rust: reading and writing blocks and frames, the number check, the sender, interleaving, replay, the
-// checks of methods 3 to 6 and those of two parts joined. Crate `corridor_c` exports them. Methods, shapes and refusals go by document
-// 01's numbers; 0 is success. Every input is taken: a code outside its list answers 1, with an answer of zeros. The output keeps every
-// byte that a success does not name. Bit 0 of a check is its highest power and is sent first.
+// The calls of the library for C and Rust: reading and writing blocks, frames and fixed blocks, the number check, the sender,
+// interleaving, replay, the checks of methods 3 to 6 and those of two parts joined. Crate `corridor_c` exports them. Methods, shapes,
+// degrees and refusals go by document 01's numbers; 0 is success. Every input is taken: a code outside its list answers 1, with an
+// answer of zeros. The output keeps every byte that a success does not name. Bit 0 of a check is its highest power and is sent first.
 #![tactic(auto)]
 
 ghost use Rattle.std.specs.Prelude.{◌≡◌};
@@ -15,6 +15,7 @@ use cyclic5::Cyclic5;
 use cyclic6::Cyclic6;
 
 mod blocks;
+mod fixed_blocks;
 mod frames;
 mod interleaving;
 mod joins;
@@ -23,6 +24,7 @@ mod replays;
 mod senders;
 
 pub use blocks::{corridor_read_block, corridor_write_block};
+pub use fixed_blocks::{corridor_read_fixed, corridor_write_fixed};
 pub use frames::{corridor_read_frame, corridor_write_frame};
 pub use interleaving::{corridor_deinterleave, corridor_interleave};
 pub use joins::{corridor_join_3, corridor_join_4, corridor_join_5, corridor_join_6};

@@ -5,7 +5,7 @@
 ghost use Rattle.std.specs.Prelude.{◌≡◌, [], ◌∷◌};
 ghost use Rattle.bits.specs.Bytes.{low_bits, bits_of};
 ghost use Rattle.cyclic.specs.Check.{check_bits, method3, method4, method5, method6};
-ghost use Rattle.corridor.specs.Calls.{called, read_block_call, write_block_call, read_frame_call, write_frame_call, receive_call, station_called, submit_call, acknowledge_call, interleave_call, deinterleave_call, replay_called, replay_panel_call, replay_service_call, join_call};
+ghost use Rattle.corridor.specs.Calls.{called, read_block_call, write_block_call, read_frame_call, write_frame_call, receive_call, station_called, submit_call, acknowledge_call, interleave_call, deinterleave_call, replay_called, replay_panel_call, replay_service_call, join_call, write_fixed_call, read_fixed_call};
 
 use sender::Station;
 
@@ -250,4 +250,28 @@ pub extern "C" fn corridor_join_6(
     ensures { called result (value.new ∷ []) [] ≡ join_call method6 32 first first_length second second_length }
 {
     corridor::corridor_join_6(first, first_length, second, second_length, &mut *value)
+}
+
+#[unsafe(no_mangle)]
+pub extern "C" fn corridor_write_fixed(
+    degree: u8,
+    content: &[u8],
+    out: &mut [u8],
+    value: &mut usize,
+) -> u32
+    ensures { called result (value.new ∷ []) out.new ≡ write_fixed_call degree content.now out.old }
+{
+    corridor::corridor_write_fixed(degree, content, &mut *out, &mut *value)
+}
+
+#[unsafe(no_mangle)]
+pub extern "C" fn corridor_read_fixed(
+    degree: u8,
+    block: &[u8],
+    out: &mut [u8],
+    value: &mut usize,
+) -> u32
+    ensures { called result (value.new ∷ []) out.new ≡ read_fixed_call degree block.now out.old }
+{
+    corridor::corridor_read_fixed(degree, block, &mut *out, &mut *value)
 }

@@ -10,6 +10,7 @@ pub mod bits;
 pub mod block;
 pub mod diagonals;
 pub mod division;
+pub mod fixed;
 pub mod frame;
 pub mod grammar;
 pub mod interleave;

@@ -1,0 +1,4 @@
+pub mod Polynomials
+pub mod Bytes
+pub mod Received
+pub mod Words
