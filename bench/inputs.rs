@@ -1,6 +1,7 @@
 //! The timed inputs: one case for each call, kind and length.
 
 use crate::calls::{Calls, Form, Part, Station, LIBRARY};
+use crate::corridor::{longest_frame, longest_line, FrameMethod, Shape};
 use crate::peer::sender::CELL;
 use crate::peer::signs::{Link, SYN};
 use crate::random::Random;
@@ -38,7 +39,10 @@ fn form(random: &mut Random, (method, code): (u8, u8), length: usize) -> Form {
 }
 
 fn written(form: &Form) -> Vec<u8> {
-    let (mut line, mut length) = (vec![0; 2 * form.text.len() + 8], 0);
+    let (mut line, mut length) = (
+        vec![0; longest_line(Shape::ClearText, 0, form.text.len())],
+        0,
+    );
     assert_eq!(LIBRARY.write_block(form, &mut line, &mut length), 0);
     line.truncate(length);
     line
@@ -113,16 +117,25 @@ pub fn read_block(
 
 pub fn write_block(random: &mut Random, kind: (u8, u8), length: usize) -> Case {
     let forms = several(length, || form(random, kind, length));
-    let (mut out, mut value) = (vec![0; 2 * length + 8], 0);
+    let (mut out, mut value) = (vec![0; longest_line(Shape::ClearText, 0, length)], 0);
     in_turn(forms, move |calls, form| {
         black_box(calls.write_block(form, &mut out, &mut value));
         black_box((&out, &value));
     })
 }
 
+/// The bytes that a frame takes at most.
+fn frame_bytes(method: u8, content: usize) -> usize {
+    let method = match method {
+        5 => FrameMethod::Cyclic16,
+        _ => FrameMethod::Cyclic32,
+    };
+    longest_frame(method, content).div_ceil(8)
+}
+
 /// A sound frame around a content: its bits and their number.
 fn sound_frame(method: u8, content: &[u8]) -> (Vec<u8>, usize) {
-    let (mut lent, mut bits) = (vec![0; 2 * content.len() + 16], 0);
+    let (mut lent, mut bits) = (vec![0; frame_bytes(method, content.len())], 0);
     assert_eq!(
         LIBRARY.write_frame(method, content, &mut lent, &mut bits),
         0
@@ -148,7 +161,7 @@ pub fn read_frame(random: &mut Random, method: u8, length: usize) -> Case {
 
 pub fn write_frame(random: &mut Random, method: u8, length: usize) -> Case {
     let contents = several(length, || random.bytes(length));
-    let (mut out, mut value) = (vec![0; 2 * length + 16], 0);
+    let (mut out, mut value) = (vec![0; frame_bytes(method, length)], 0);
     in_turn(contents, move |calls, content| {
         black_box(calls.write_frame(method, content, &mut out, &mut value));
         black_box((&out, &value));

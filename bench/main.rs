@@ -3,6 +3,9 @@
 
 mod agree;
 mod calls;
+#[path = "../bindings/rust/corridor.rs"]
+#[allow(dead_code)]
+mod corridor;
 #[path = "../tests/peer/frames.rs"]
 #[allow(dead_code)]
 mod frames;

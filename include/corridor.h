@@ -102,6 +102,28 @@ extern "C" {
 #define CORRIDOR_NOTES 12                 /* its bytes 4 to 15 */
 
 /*
+ * Outputs that always suffice, so that a buffer can have its size when the
+ * program is built. Proved as `lengths` in crates/guarantees/proofs; the field
+ * of it stands beside each. Arguments are bytes.
+ */
+/* Bytes of a line of plain text, or of a header alone, in any method (line). */
+#define CORRIDOR_LONGEST_PLAIN(header, text) ((header) + (text) + 5)
+/* Bytes of a line of clear text: met where every byte of the text is 10
+ * (clear_line_3, clear_line_4, met_by_dle_3, met_by_dle_4). */
+#define CORRIDOR_LONGEST_CLEAR(text) (2 * (text) + 6)
+/* The same behind a header (line). */
+#define CORRIDOR_LONGEST_HEADER_CLEAR(header, text) \
+    ((header) + 2 * (text) + 7)
+/* Bits of a frame of method 5 (frame_5, met_by_ff) and of method 6
+ * (frame_6). */
+#define CORRIDOR_LONGEST_FRAME_16(content) \
+    (8 * (content) + 32 + (8 * (content) + 16) / 5)
+#define CORRIDOR_LONGEST_FRAME_32(content) \
+    (8 * (content) + 48 + (8 * (content) + 32) / 5)
+/* The bytes that so many bits take. */
+#define CORRIDOR_FRAME_BYTES(bits) (((bits) + 7) / 8)
+
+/*
  * Reads one block.
  *
  *   method       1 to 4, or 7

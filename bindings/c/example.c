@@ -34,8 +34,8 @@ static void block(void)
 {
     const uint8_t header[] = {'7', 'B'};
     const uint8_t text[] = {'R', 'O', 'O', 'M', ' ', '1', '2'};
-    uint8_t line[32];
-    uint8_t out[32];
+    uint8_t line[CORRIDOR_LONGEST_PLAIN(sizeof header, sizeof text)];
+    uint8_t out[sizeof line];
     size_t length;
     size_t answer[5];
 
@@ -73,8 +73,8 @@ static void other_code(void)
 {
     const uint8_t text[] = {0x16, 0x17};
     const uint8_t sent[] = {0x02, 0x16, 0x17, 0x26};
-    uint8_t line[8];
-    uint8_t out[2];
+    uint8_t line[CORRIDOR_LONGEST_PLAIN(0, sizeof text)];
+    uint8_t out[sizeof text];
     size_t length;
     size_t answer[5];
 
@@ -101,18 +101,19 @@ static void other_code(void)
 static void frame(void)
 {
     const uint8_t content[] = {0xFF, 0xFF};
-    uint8_t lent[16];
-    uint8_t out[2];
+    uint8_t lent[CORRIDOR_FRAME_BYTES(CORRIDOR_LONGEST_FRAME_16(sizeof content))];
+    uint8_t out[sizeof content];
     size_t bits;
     size_t length;
 
     uint32_t number = corridor_write_frame(CORRIDOR_FRAME_16, content,
                                            sizeof content, lent, sizeof lent,
                                            &bits);
-    expect(number == 0 && bits == 54, "the frame is written");
+    expect(number == 0, "the frame is written");
+    expect(bits == CORRIDOR_LONGEST_FRAME_16(sizeof content), "the longest");
     if (number != 0)
         return;
-    print_bytes("frame", lent, (bits + 7) / 8);
+    print_bytes("frame", lent, CORRIDOR_FRAME_BYTES(bits));
 
     number = corridor_read_frame(CORRIDOR_FRAME_16, bits, lent, sizeof lent,
                                  out, sizeof out, &length);

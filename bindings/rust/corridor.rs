@@ -170,6 +170,30 @@ fn value_of(number: u32, value: usize) -> Result<usize, Refusal> {
     }
 }
 
+/// Bytes that hold the line of every header and text of so many bytes, in any
+/// method: a buffer of that size never answers 6. Proved as `lengths`
+/// (`line`, `clear_line_3` and `clear_line_4`).
+pub const fn longest_line(shape: Shape, header: usize, text: usize) -> usize {
+    match shape {
+        Shape::Header => header + 4,
+        Shape::Text => text + 4,
+        Shape::HeaderText => header + text + 5,
+        Shape::ClearText => 2 * text + 6,
+        Shape::HeaderClearText => header + 2 * text + 7,
+    }
+}
+
+/// Bits of the longest frame of so many bytes of content. Proved as `lengths`
+/// (`frame_5` and `frame_6`).
+pub const fn longest_frame(method: FrameMethod, content: usize) -> usize {
+    let check = match method {
+        FrameMethod::Cyclic16 => 16,
+        FrameMethod::Cyclic32 => 32,
+    };
+    let checked = 8 * content + check;
+    checked + 16 + checked / 5
+}
+
 /// Reads one block from `line`; header and text go to the start of `out`.
 pub fn read_block(link: Link, line: &[u8], out: &mut [u8]) -> Result<Block, Refusal> {
     let mut answer = [0; 5];

@@ -49,11 +49,12 @@ fn run() -> Result<(), Refusal> {
 
 /// A header and a text under the matrix, there and back.
 fn block() -> Result<(), Refusal> {
-    let mut line = [0; 64];
+    const LONGEST: usize = corridor::longest_line(Shape::HeaderText, 2, 7);
+    let mut line = [0; LONGEST];
     let form = (Shape::HeaderText, EndSign::Etx);
     let length = corridor::write_block(MATRIX, form, b"7B", b"ROOM 12", &mut line)?;
     println!("block: {:02X?}", &line[..length]);
-    let mut out = [0; 64];
+    let mut out = [0; LONGEST];
     let block = corridor::read_block(MATRIX, &line[..length], &mut out)?;
     let (header, rest) = out.split_at(block.header_length);
     let text = &rest[..block.text_length];
@@ -75,7 +76,7 @@ fn refused_block() {
 
 /// Under DKOI the byte of ETB is 26, and 16 and 17 are data.
 fn other_code() -> Result<(), Refusal> {
-    let mut line = [0; 8];
+    let mut line = [0; corridor::longest_line(Shape::Text, 0, 2)];
     let form = (Shape::Text, EndSign::Etb);
     let length = corridor::write_block(CYCLIC, form, &[], &[0x16, 0x17], &mut line)?;
     assert_eq!(line[..4], [0x02, 0x16, 0x17, 0x26]);
@@ -86,11 +87,13 @@ fn other_code() -> Result<(), Refusal> {
     Ok(())
 }
 
-/// A content of two bytes FF under the 16-bit check takes 54 bits.
+/// A content of two bytes FF under the 16-bit check takes 54 bits, and none of
+/// two bytes takes more.
 fn frame() -> Result<(), Refusal> {
-    let mut lent = [0; 16];
+    const LONGEST: usize = corridor::longest_frame(FrameMethod::Cyclic16, 2);
+    let mut lent = [0; LONGEST.div_ceil(8)];
     let bits = corridor::write_frame(FrameMethod::Cyclic16, &[0xFF, 0xFF], &mut lent)?;
-    assert_eq!(bits, 54);
+    assert_eq!((bits, LONGEST), (54, 54));
     let mut content = [0; 2];
     let length = corridor::read_frame(FrameMethod::Cyclic16, bits, &lent, &mut content)?;
     assert_eq!((length, content), (2, [0xFF, 0xFF]));

@@ -20,6 +20,7 @@ mod generated;
 mod interleaving;
 mod joins;
 mod judge;
+mod lengths;
 mod limits;
 mod lines;
 #[allow(dead_code)]
@@ -89,6 +90,9 @@ fn main() -> ExitCode {
     });
     stage("fixed blocks", tried, |judge| {
         fixed_blocks::run(&mut judge.tally, &mut random)
+    });
+    stage("longest lines and frames", tried, |judge| {
+        lengths::run(&mut judge.tally, &mut random)
     });
     judge.tally.print();
     let missing = judge.tally.missing();

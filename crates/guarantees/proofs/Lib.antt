@@ -10,3 +10,4 @@ pub mod Beyond
 pub mod Rows
 pub mod Fill
 pub mod Codes
+pub mod Lengths

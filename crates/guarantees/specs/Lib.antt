@@ -9,3 +9,4 @@ pub mod LeadingFill
 pub mod Second
 pub mod Rows
 pub mod Codes
+pub mod Lengths

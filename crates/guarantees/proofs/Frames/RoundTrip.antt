@@ -32,12 +32,12 @@ use Rattle.guarantees.proofs.Frames.Bridge.{length-flag, whole}
 not_written : {n v : ℕ} {f : List Bool} → writing.refusal n v ≡ writing.written f → ⊥
 not_written {n = n} {v = v} {f = f} e = let z : ◌≡◌ {A = ℕ} 0 1 = cc in omega arith
 
-record Written (m : Parameters) (content : List ℕ) (frame : List Bool) : Type 0 where
-  some : 1 ≤ length content
-  within : length content ≤ m.limit
-  bits : frame ≡ frame_of m (bits_of content)
+pub record Written (m : Parameters) (content : List ℕ) (frame : List Bool) : Type 0 where
+  pub some : 1 ≤ length content
+  pub within : length content ≤ m.limit
+  pub bits : frame ≡ frame_of m (bits_of content)
 
-was_written : (m : Parameters) (content : List ℕ) (frame : List Bool) (room : ℕ) → writing.write_frame m content room ≡ writing.written frame → Written m content frame
+pub was_written : (m : Parameters) (content : List ℕ) (frame : List Bool) (room : ℕ) → writing.write_frame m content room ≡ writing.written frame → Written m content frame
 unfolding writing.write_frame
 was_written m content frame room e =
     let a = ask-passed (leb 1 (length content)) not_written e in
@@ -49,7 +49,7 @@ was_written m content frame room e =
 -- ---- an enclosed string is found again
 
 module _ (s : List Bool) where
-  length_enclosed : length (enclose s) ≡ length (stuff 0 s) + 16
+  pub length_enclosed : length (enclose s) ≡ length (stuff 0 s) + 16
   unfolding enclose
   length_enclosed = simp (length-append, length-flag) (omega arith)
 
