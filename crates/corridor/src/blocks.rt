@@ -11,7 +11,8 @@ use codes::{format_of, link_of};
 
 // Reads one block. After a success the answer is shape, end sign, lengths of header and text, and the counted number; after a
 // refusal it is the refusal's place or needed bytes, then zeros.
-pub fn corridor_read_block(
+#[unsafe(no_mangle)]
+pub extern "C" fn corridor_read_block(
     method: u8,
     parity: u8,
     code: u8,
@@ -32,7 +33,8 @@ pub fn corridor_read_block(
 }
 
 // Writes one block. The value is the length of the line, or the refusal's place or needed bytes.
-pub fn corridor_write_block(
+#[unsafe(no_mangle)]
+pub extern "C" fn corridor_write_block(
     method: u8,
     parity: u8,
     code: u8,

@@ -8,7 +8,13 @@ use fixed_answers::{fixed_read, fixed_written};
 use fixed_block::{read_fixed, write_fixed};
 
 // Writes one fixed block. The value is its length, or the needed bytes of a refusal.
-pub fn corridor_write_fixed(degree: u8, content: &[u8], out: &mut [u8], value: &mut usize) -> u32
+#[unsafe(no_mangle)]
+pub extern "C" fn corridor_write_fixed(
+    degree: u8,
+    content: &[u8],
+    out: &mut [u8],
+    value: &mut usize,
+) -> u32
     ensures { called result (value.new ∷ []) out.new ≡ write_fixed_call degree content.now out.old }
 {
     *value = 0;
@@ -21,7 +27,13 @@ pub fn corridor_write_fixed(degree: u8, content: &[u8], out: &mut [u8], value: &
 }
 
 // Reads one fixed block. The value is the length of its content, or the needed bytes of a refusal.
-pub fn corridor_read_fixed(degree: u8, block: &[u8], out: &mut [u8], value: &mut usize) -> u32
+#[unsafe(no_mangle)]
+pub extern "C" fn corridor_read_fixed(
+    degree: u8,
+    block: &[u8],
+    out: &mut [u8],
+    value: &mut usize,
+) -> u32
     ensures { called result (value.new ∷ []) out.new ≡ read_fixed_call degree block.now out.old }
 {
     *value = 0;

@@ -10,7 +10,8 @@ use frame_writer::write_frame;
 
 // Reads the frame that is the first `bits` bits of the bytes lent. The value is the content's number of bytes, or the refusal's
 // place in bits or needed bytes.
-pub fn corridor_read_frame(
+#[unsafe(no_mangle)]
+pub extern "C" fn corridor_read_frame(
     method: u8,
     bits: usize,
     lent: &[u8],
@@ -29,7 +30,13 @@ pub fn corridor_read_frame(
 }
 
 // Writes one frame. The value is its number of bits, or the needed bytes of a refusal.
-pub fn corridor_write_frame(method: u8, content: &[u8], out: &mut [u8], value: &mut usize) -> u32
+#[unsafe(no_mangle)]
+pub extern "C" fn corridor_write_frame(
+    method: u8,
+    content: &[u8],
+    out: &mut [u8],
+    value: &mut usize,
+) -> u32
     ensures { called result (value.new ∷ []) out.new ≡ write_frame_call method content.now out.old }
 {
     *value = 0;

@@ -15,14 +15,16 @@ fn answered(answer: Result<(), InterleaveRefusal>) -> u32
 }
 
 // Lays the text in rows of d and puts its columns one after the other.
-pub fn corridor_interleave(d: usize, text: &[u8], out: &mut [u8]) -> u32
+#[unsafe(no_mangle)]
+pub extern "C" fn corridor_interleave(d: usize, text: &[u8], out: &mut [u8]) -> u32
     ensures { called result [] out.new ≡ interleave_call d text.now out.old }
 {
     answered(interleave(d, text, &mut *out))
 }
 
 // Puts the columns of a line back into rows of d.
-pub fn corridor_deinterleave(d: usize, line: &[u8], out: &mut [u8]) -> u32
+#[unsafe(no_mangle)]
+pub extern "C" fn corridor_deinterleave(d: usize, line: &[u8], out: &mut [u8]) -> u32
     ensures { called result [] out.new ≡ deinterleave_call d line.now out.old }
 {
     answered(deinterleave(d, line, &mut *out))

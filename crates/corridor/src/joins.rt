@@ -17,7 +17,8 @@ fn part<Number>(check: Number, length: usize) -> Part<Number>
     Part { check, length }
 }
 
-pub fn corridor_join_3(
+#[unsafe(no_mangle)]
+pub extern "C" fn corridor_join_3(
     first: u16,
     first_length: usize,
     second: u16,
@@ -33,7 +34,8 @@ pub fn corridor_join_3(
     joined.number
 }
 
-pub fn corridor_join_4(
+#[unsafe(no_mangle)]
+pub extern "C" fn corridor_join_4(
     first: u16,
     first_length: usize,
     second: u16,
@@ -49,7 +51,8 @@ pub fn corridor_join_4(
     joined.number
 }
 
-pub fn corridor_join_5(
+#[unsafe(no_mangle)]
+pub extern "C" fn corridor_join_5(
     first: u16,
     first_length: usize,
     second: u16,
@@ -65,7 +68,8 @@ pub fn corridor_join_5(
     joined.number
 }
 
-pub fn corridor_join_6(
+#[unsafe(no_mangle)]
+pub extern "C" fn corridor_join_6(
     first: u32,
     first_length: usize,
     second: u32,

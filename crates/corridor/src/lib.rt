@@ -1,7 +1,8 @@
-// The calls of the library for C and Rust: reading and writing blocks, frames and fixed blocks, the number check, the sender,
-// interleaving, replay, the checks of methods 3 to 6 and those of two parts joined. Crate `corridor_c` exports them. Methods, shapes,
-// degrees and refusals go by document 01's numbers; 0 is success. Every input is taken: a code outside its list answers 1, with an
-// answer of zeros. The output keeps every byte that a success does not name. Bit 0 of a check is its highest power and is sent first.
+// The static library for C and Rust: reading and writing blocks, frames and fixed blocks, the number check, the sender, interleaving,
+// replay, the checks of methods 3 to 6 and those of two parts joined. Methods, shapes, degrees and refusals go by document 01's
+// numbers; 0 is success. Every input is taken: a code outside its list answers 1, with an answer of zeros. The output keeps every byte
+// that a success does not name. Bit 0 of a check is its highest power and is sent first. A slice is passed as a pointer and then a
+// length, a `&mut` number or array as a pointer. include/corridor.h documents every call.
 #![tactic(auto)]
 
 ghost use Rattle.std.specs.Prelude.{◌≡◌};
@@ -35,26 +36,30 @@ pub use senders::{corridor_acknowledge, corridor_submit};
 // The number of a code outside its list.
 pub(crate) const UNKNOWN_CODE: u32 = 1;
 
-// The four checks are calls of their own: C has a name for each (crate corridor_c), and each contract gives its own method's check.
-pub fn corridor_check_3(content: &[u8]) -> u16
+// The four checks are calls of their own: C has a name for each, and each contract gives its own method's check.
+#[unsafe(no_mangle)]
+pub extern "C" fn corridor_check_3(content: &[u8]) -> u16
     ensures { low_bits 16 result ≡ check_bits method3 (bits_of content.now) }
 {
     Cyclic3::check_of(content)
 }
 
-pub fn corridor_check_4(content: &[u8]) -> u16
+#[unsafe(no_mangle)]
+pub extern "C" fn corridor_check_4(content: &[u8]) -> u16
     ensures { low_bits 16 result ≡ check_bits method4 (bits_of content.now) }
 {
     Cyclic4::check_of(content)
 }
 
-pub fn corridor_check_5(content: &[u8]) -> u16
+#[unsafe(no_mangle)]
+pub extern "C" fn corridor_check_5(content: &[u8]) -> u16
     ensures { low_bits 16 result ≡ check_bits method5 (bits_of content.now) }
 {
     Cyclic5::check_of(content)
 }
 
-pub fn corridor_check_6(content: &[u8]) -> u32
+#[unsafe(no_mangle)]
+pub extern "C" fn corridor_check_6(content: &[u8]) -> u32
     ensures { low_bits 32 result ≡ check_bits method6 (bits_of content.now) }
 {
     Cyclic6::check_of(content)

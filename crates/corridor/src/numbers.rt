@@ -6,7 +6,8 @@ use answers::received;
 use number::{NumberRecord, receive};
 
 // Judges a received number by the record n, w and c. The answer is 1 new, 2 repeat, 3 lost or 0 for a refusal, then c afterwards.
-pub fn corridor_receive(n: u8, w: u8, c: u8, number: u8, answer: &mut [u8; 2]) -> u32
+#[unsafe(no_mangle)]
+pub extern "C" fn corridor_receive(n: u8, w: u8, c: u8, number: u8, answer: &mut [u8; 2]) -> u32
     ensures { called result answer.new [] ≡ receive_call n w c number }
 {
     let result = receive(NumberRecord { n, w, c }, number);

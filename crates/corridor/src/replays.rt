@@ -19,7 +19,8 @@ fn refused(refusal: ReplayRefusal, value: &mut usize) -> u32
 
 // Replays a trace for the panel's reader. After a refusal record and c are as they were, and the value is the needed bytes or the index
 // of the record that it carries.
-pub fn corridor_replay_panel(
+#[unsafe(no_mangle)]
+pub extern "C" fn corridor_replay_panel(
     n: u8,
     w: u8,
     trace: &[u8],
@@ -42,7 +43,8 @@ pub fn corridor_replay_panel(
 }
 
 // Replays a trace for the service reader. After a refusal the notes are as they were too.
-pub fn corridor_replay_service(
+#[unsafe(no_mangle)]
+pub extern "C" fn corridor_replay_service(
     n: u8,
     w: u8,
     trace: &[u8],

@@ -6,7 +6,8 @@ use sender::{Station, acknowledge_to, submit_to};
 use sender_answers::sender_answered;
 
 // Submits one block. The value is its number, or the needed bytes of a refusal.
-pub fn corridor_submit(
+#[unsafe(no_mangle)]
+pub extern "C" fn corridor_submit(
     n: u8,
     w: u8,
     station: &mut Station,
@@ -22,7 +23,8 @@ pub fn corridor_submit(
 }
 
 // Frees the named block and all before it. The value is how many, or the needed bytes of a refusal.
-pub fn corridor_acknowledge(
+#[unsafe(no_mangle)]
+pub extern "C" fn corridor_acknowledge(
     n: u8,
     w: u8,
     station: &mut Station,
