@@ -1,16 +1,14 @@
 -- The seven values of a table are different and below 80, and each has its sign. Assumes nothing.
-use mathlib.Core.Path.{◌≡◌, refl, sym, ap, ◌∙◌}
+use mathlib.Core.Path.{◌≡◌, refl, sym}
 use Prim.Native.Nat.{ℕ, zero, suc, ◌<◌}
 use native.Mathlib.Omega.{arith}
-use mathlib.Core.Bool.{Bool, true, false, not, ◌&&◌, ◌||◌}
+use mathlib.Core.Bool.{true, false, not}
 use mathlib.Core.List.{List, [], ◌∷◌}
 use lib.Dec.{eqb, ltb}
 use lib.ListN.{length, get_or}
 use borrow.Author.Tests.{both_ways, not-true, ltb-true, ne_eqb, eq-eqb}
 use Rattle.std.proofs.lemmas.Bool.{and_parts, or_parts}
-use Rattle.block.specs.declared.EndSign.{EndSign}
-use Rattle.block.specs.declared.EndSign.TheVariants.{Etx, Etb, Us}
-use Rattle.block.specs.Signs.{is_among, are_different, are_below, CodeTable, Sign, soh, stx, etx, dle, syn, etb, us, sign_of, end_byte}
+use Rattle.block.specs.Signs.{is_among, are_different, are_below, CodeTable, soh, stx, etx, dle, syn, etb, us, sign_of}
 
 not_among : (n : ℕ) (ns : List ℕ) → is_among ns n ≡ false → (j : ℕ) → j < length ns → n ≡ get_or ns j 0 → ⊥
 not_among n [] e j h q = elim h [ ]

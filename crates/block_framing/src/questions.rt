@@ -6,7 +6,7 @@ ghost use Rattle.block_framing.specs.Framings.{of_walk, walked_for, framing_for}
 use crate::Segments;
 use crate::walk::walk;
 use block::{
-    BytePlace, COUNTED_LIMIT, Field, LINE_LIMIT, Link, ReadRefusal, carries, check_length, is_seven,
+    BytePlace, COUNTED_LIMIT, LINE_LIMIT, Link, ReadRefusal, carries, check_length, is_seven,
 };
 use block_parity::first_wrong;
 
