@@ -13,17 +13,21 @@ use Rattle.frame.specs.Answers.{Numbers, frame, content, refused, write_number, 
 -- ---- writing
 
 write_refusal_from : ℕ → ℕ → WriteRefusal
-write_refusal_from n v = cond (eqb n 21) writing.NoContent (cond (eqb n 22) writing.TooLong (writing.OutputShort v))
+write_refusal_from n v =
+    cond (eqb n 66) writing.BitsNotLent
+    (cond (eqb n 21) writing.NoContent
+    (cond (eqb n 22) writing.TooLong (writing.OutputShort v)))
 
 write_refusal_back : (r : WriteRefusal) → write_refusal_from (write_number r) (write_value r) ≡ r
 unfolding write_refusal_from
+write_refusal_back writing.BitsNotLent = refl
 write_refusal_back writing.NoContent = refl
 write_refusal_back writing.TooLong = refl
 write_refusal_back (writing.OutputShort needed) = refl
 
 written_from : Numbers → Result ℕ WriteRefusal
 written_from (frame bits) = Ok bits
-written_from (content bytes) = Ok bytes
+written_from (content bits) = Ok bits
 written_from (refused n v) = Err (write_refusal_from n v)
 
 written_back : (w : Result ℕ WriteRefusal) → written_from (of_written w) ≡ w
@@ -41,17 +45,15 @@ read_refusal_from n v =
     cond (eqb n 31) reading.BitsNotLent
     (cond (eqb n 32) reading.NoFlags
     (cond (eqb n 33) (reading.ZeroMissing (record { 0 = v }))
-    (cond (eqb n 34) reading.PartOfByte
     (cond (eqb n 35) reading.NoContent
     (cond (eqb n 36) reading.TooLong
-    (cond (eqb n 37) reading.WrongCheck (reading.OutputShort v)))))))
+    (cond (eqb n 37) reading.WrongCheck (reading.OutputShort v))))))
 
 read_refusal_back : (r : ReadRefusal) → read_refusal_from (read_number r) (read_value r) ≡ r
 unfolding read_refusal_from
 read_refusal_back reading.BitsNotLent = refl
 read_refusal_back reading.NoFlags = refl
 read_refusal_back (reading.ZeroMissing at) = refl
-read_refusal_back reading.PartOfByte = refl
 read_refusal_back reading.NoContent = refl
 read_refusal_back reading.TooLong = refl
 read_refusal_back reading.WrongCheck = refl
@@ -59,12 +61,12 @@ read_refusal_back (reading.OutputShort needed) = refl
 
 read_from : Numbers → Result ℕ ReadRefusal
 read_from (frame bits) = Ok bits
-read_from (content bytes) = Ok bytes
+read_from (content bits) = Ok bits
 read_from (refused n v) = Err (read_refusal_from n v)
 
 read_back : (r : Result ℕ ReadRefusal) → read_from (of_read r) ≡ r
 unfolding read_from
-read_back (Ok bytes) = refl
+read_back (Ok bits) = refl
 read_back (Err r) = ap Err (read_refusal_back r)
 
 pub of_read_injective : (r s : Result ℕ ReadRefusal) → of_read r ≡ of_read s → r ≡ s

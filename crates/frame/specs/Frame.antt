@@ -1,5 +1,5 @@
 -- The bits of a frame (document 01, part 4; 003 par. 2.2). Assumes nothing.
-use Rattle.std.specs.Prelude.{ℕ, Bool, List, ◌++◌, length}
+use Rattle.std.specs.Prelude.{ℕ, ◌*◌, Bool, List, ◌++◌, length}
 use Rattle.bits.specs.Bytes.{low_bits}
 use Rattle.cyclic.specs.Check.{Parameters, checked_bits, method5, method6}
 use Rattle.frame.specs.declared.FrameMethod.{FrameMethod}
@@ -14,6 +14,10 @@ parameters_of method.Cyclic32 = method6
 -- how many bits the check has
 abbrev pub width : Parameters → ℕ
 width m = length m.generator
+
+-- the most bits of a content (003 par. 2.2.6: 32,768 for method 5; document 02, card 13); the check's limit is in bytes
+abbrev pub limit_bits : Parameters → ℕ
+limit_bits m = 8 * m.limit
 
 unfoldable pub flag : List Bool
 flag = low_bits 8 0x7E

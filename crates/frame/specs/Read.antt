@@ -1,12 +1,13 @@
--- Reading a frame: questions 31 to 38 in turn (document 01, "Questions before a line is taken"). Assumes nothing.
-use Rattle.std.specs.Prelude.{ℕ, ◌+◌, ◌-◌, ◌*◌, ◌%◌, Bool, cond, List, ◌++◌, leb, eqb, length, take, drop}
+-- Reading a frame: questions 31 to 33 and 35 to 38 in turn (document 01, "Questions before a line is taken"; document 02, card 13).
+-- Assumes nothing.
+use Rattle.std.specs.Prelude.{ℕ, ◌+◌, ◌-◌, ◌*◌, Bool, cond, List, ◌++◌, leb, length, take, drop}
 use Rattle.std.proofs.Math.Seq.{slice}
 use Rattle.bits.specs.Strings.{same}
 use Rattle.bits.specs.Bytes.{bits_of, bytes_for, pack}
 use Rattle.bits.specs.Differences.{set_from}
 use Rattle.cyclic.specs.Check.{Parameters, check_bits}
 use Rattle.frame.specs.Stuffing.{Unstuffed, clean, missing, unstuff, behind_five}
-use Rattle.frame.specs.Frame.{width, flag}
+use Rattle.frame.specs.Frame.{width, limit_bits, flag}
 
 -- content and check of a frame, the inserted zeros removed; or the number and value of a refusal
 pub data Framed : Type 0 where
@@ -17,13 +18,12 @@ pub data Framed : Type 0 where
 abbrev pub ask : Bool → ℕ → ℕ → Framed → Framed
 ask holds number value next = cond holds next (unframed number value)
 
--- a multiple of 8 left? 34. At least 1 content byte? 35. Within the limit? 36
+-- at least 1 content bit? 35. Within the limit? 36
 abbrev pub ask_length : Parameters → List Bool → Framed
 ask_length m s =
-    ask (eqb (length s % 8) 0) 34 0
-    (ask (leb (8 + width m) (length s)) 35 0
-    (ask (leb (length s) (8 * m.limit + width m)) 36 0
-    (found s)))
+    ask (leb (1 + width m) (length s)) 35 0
+    (ask (leb (length s) (limit_bits m + width m)) 36 0
+    (found s))
 
 -- between the flags, a zero after every five ones? 33, with the place of the bit after them
 abbrev pub ask_zeros : Parameters → Unstuffed → Framed
@@ -82,7 +82,8 @@ read_bits m frame room = ask_check m room (framed m frame)
 unfoldable pub read_frame : Parameters → ℕ → List ℕ → ℕ → ReadAnswer
 read_frame m told lent room = cond (leb told (8 * length lent)) (read_bits m (take told (bits_of lent)) room) (refusal 31 0)
 
--- the output afterwards: the content, then what stood there; after a refusal all of what stood there
+-- the output afterwards: the content, the spare high bits of its last byte zero, then what stood there; after a refusal all of
+-- what stood there
 unfoldable pub read_output : ReadAnswer → List ℕ → List ℕ
 read_output (taken content) out = pack content ++ drop (bytes_for (length content)) out
 read_output (refusal number value) out = out

@@ -16,9 +16,11 @@ pub struct BitPlace(pub usize);
 // Why a frame is not written.
 #[derive(Clone, Copy, Debug, PartialEq, Eq)]
 pub enum WriteRefusal {
+    // 66: more bits claimed than lent
+    BitsNotLent,
     // 21
     NoContent,
-    // 22: more bytes than the method's limit
+    // 22: more bits than the method's limit
     TooLong,
     // 23: the bytes needed
     OutputShort(usize),
@@ -33,11 +35,9 @@ pub enum ReadRefusal {
     NoFlags,
     // 33: the place of the bit after five ones
     ZeroMissing(BitPlace),
-    // 34: content and check are no whole bytes
-    PartOfByte,
     // 35
     NoContent,
-    // 36: more bytes than the method's limit
+    // 36: more bits than the method's limit
     TooLong,
     // 37
     WrongCheck,
@@ -47,4 +47,4 @@ pub enum ReadRefusal {
 
 mod numbers;
 
-pub use numbers::{FLAG, check_width, limit};
+pub use numbers::{FLAG, check_width, limit_bits};

@@ -1,6 +1,6 @@
--- `limit` meets its contract: the types of the checks name the limits of the methods. Assumes nothing.
+-- `limit_bits` meets its contract: the types of the checks name the limits of the methods. Assumes nothing.
 use Rattle.cyclic.specs.Check.{method5, method6}
-use Rattle.frame.proofs.numbers.limit.Goals as goal
+use Rattle.frame.proofs.numbers.limit_bits.Goals as goal
 
 pub returns-in-Cyclic16 : goal.returns-in-Cyclic16
 unfolding method5
