@@ -1,3 +1,4 @@
 pub mod Enter
 pub mod Table
+pub mod Bits
 pub mod Entered

@@ -8,7 +8,7 @@ use mathlib.Core.List.{List, [], ◌∷◌, ◌++◌, append_assoc, append-nil}
 use lib.Bits.{bit_xor, xor_lt}
 use lib.Dec.{lit<}
 use lib.ListN.{length, get_or, length-append, length-replicate}
-use lib.Pow.{shr_lt, shr_le}
+use lib.Pow.{pow_pos, shr_lt, shr_le}
 use Rattle.bits.specs.Strings.{xor_bits, zeros}
 use Rattle.bits.specs.Bytes.{low_bits, bits_of}
 use Rattle.bits.proofs.Strings.{xor_self, length-zeros, length-xor, xor_bits_comm, xor_bits-zeros, xor_bits_cancel, xor_bits-append}
@@ -43,30 +43,30 @@ enter_group p lo hi m h w =
     ∙ enter_linear p x (m ++ hi) (zeros k) m (simp (length-append, length-replicate, lx) (omega arith)) (simp length-append (omega arith)) (length-zeros k)
     ∙ ap₂ xor_bits (enter-zeros p x k) (enter_self p m hi)
 
--- ---- a byte
+-- ---- the low bits of a byte
 
-module _ (j : ℕ) (p : List Bool) (wide : length p ≡ 8 + j) where
-  -- the register as a number: its low byte meets the byte, its other bytes move down
-  enter-byte : (register byte : ℕ) → register < 2 ^ (8 + j)
-      → enter p (low_bits (8 + j) register) (low_bits 8 byte)
-      ≡ xor_bits (divide p (low_bits (8 + j) (bit_xor register byte % 256)) (zeros 8)) (low_bits (8 + j) (register / 256))
-  enter-byte register byte fits =
-      let lo = low_bits 8 register in
-      let hi = low_bits j (register / 256) in
-      let m = low_bits 8 byte in
-      let low : low_bits (8 + j) (bit_xor register byte % 256) ≡ xor_bits lo m ++ zeros j =
-      low_bits-append 8 j (bit_xor register byte % 256)
-      ∙ ap₂ ◌++◌ (low_bits-mod 8 (bit_xor register byte) ∙ low_bits-xor 8 register byte)
-      (ap (low_bits j) (div-eq_of_lt (mod-lt (bit_xor register byte) (lit< tt))) ∙ low_bits-zero j) in
-      let high : low_bits (8 + j) (register / 256) ≡ hi ++ zeros 8 =
-      ap (λ w. low_bits w (register / 256)) (add_comm 8 j) ∙ low_bits-append j 8 (register / 256)
+module _ (k j : ℕ) (p : List Bool) (wide : length p ≡ k + j) where
+  -- the register as a number: its k low bits meet the bits, its other bits move down
+  pub enter_low : (register byte : ℕ) → register < 2 ^ (k + j)
+      → enter p (low_bits (k + j) register) (low_bits k byte)
+      ≡ xor_bits (divide p (low_bits (k + j) (bit_xor register byte % 2 ^ k)) (zeros k)) (low_bits (k + j) (register / 2 ^ k))
+  enter_low register byte fits =
+      let lo = low_bits k register in
+      let hi = low_bits j (register / 2 ^ k) in
+      let m = low_bits k byte in
+      let low : low_bits (k + j) (bit_xor register byte % 2 ^ k) ≡ xor_bits lo m ++ zeros j =
+      low_bits-append k j (bit_xor register byte % 2 ^ k)
+      ∙ ap₂ ◌++◌ (low_bits-mod k (bit_xor register byte) ∙ low_bits-xor k register byte)
+      (ap (low_bits j) (div-eq_of_lt (mod-lt (bit_xor register byte) (pow_pos k))) ∙ low_bits-zero j) in
+      let high : low_bits (k + j) (register / 2 ^ k) ≡ hi ++ zeros k =
+      ap (λ w. low_bits w (register / 2 ^ k)) (add_comm k j) ∙ low_bits-append j k (register / 2 ^ k)
       ∙ ap (λ z. hi ++ z)
-      (ap (low_bits 8) (div-eq_of_lt (shr_lt j 8 (subst (λ (w : ℕ). register < 2 ^ w) (add_comm 8 j) fits))) ∙ low_bits-zero 8) in
-      ap (λ z. enter p z m) (low_bits-append 8 j register)
-      ∙ enter_group p lo hi m (length-low_bits 8 register ∙ sym (length-low_bits 8 byte))
-      (omega (arith, length-low_bits 8 register, length-low_bits j (register / 256)))
-      ∙ ap₂ (λ a b. xor_bits (divide p (xor_bits lo m ++ zeros a) (zeros b)) (hi ++ zeros b)) (length-low_bits j (register / 256)) (length-low_bits 8 byte)
-      ∙ ap₂ (λ a b. xor_bits (divide p a (zeros 8)) b) (sym low) (sym high)
+      (ap (low_bits k) (div-eq_of_lt (shr_lt j k (subst (λ (w : ℕ). register < 2 ^ w) (add_comm k j) fits))) ∙ low_bits-zero k) in
+      ap (λ z. enter p z m) (low_bits-append k j register)
+      ∙ enter_group p lo hi m (length-low_bits k register ∙ sym (length-low_bits k byte))
+      (omega (arith, length-low_bits k register, length-low_bits j (register / 2 ^ k), wide))
+      ∙ ap₂ (λ a b. xor_bits (divide p (xor_bits lo m ++ zeros a) (zeros b)) (hi ++ zeros b)) (length-low_bits j (register / 2 ^ k)) (length-low_bits k byte)
+      ∙ ap₂ (λ a b. xor_bits (divide p a (zeros k)) b) (sym low) (sym high)
 
 -- ---- the table
 
@@ -79,15 +79,15 @@ module _ (w : ℕ) (p : List Bool) (wide : length p ≡ w) where
   length-entry : (k : ℕ) → length (divide p (low_bits w k) (zeros 8)) ≡ w
   length-entry k = length-divide p (low_bits w k) (zeros 8) (length-low_bits w k ∙ sym wide) ∙ wide
 
-  table_at : (k : ℕ) → k < 256 → get_or (table_of w p) k 0 ≡ entry w p k
+  pub table_at : (k : ℕ) → k < 256 → get_or (table_of w p) k 0 ≡ entry w p k
   unfolding table_of
   table_at k h = tabulate_at (entry w p) 0 256 k h ∙ ap (entry w p) (zero-add k)
 
-  entry-bits : (k : ℕ) → low_bits w (entry w p k) ≡ divide p (low_bits w k) (zeros 8)
+  pub entry-bits : (k : ℕ) → low_bits w (entry w p k) ≡ divide p (low_bits w k) (zeros 8)
   entry-bits k =
       ap (λ n. low_bits n (entry w p k)) (sym (length-entry k)) ∙ low_bits-value (divide p (low_bits w k) (zeros 8))
 
-  entry_lt : (k : ℕ) → entry w p k < 2 ^ w
+  pub entry_lt : (k : ℕ) → entry w p k < 2 ^ w
   entry_lt k = subst (λ (n : ℕ). entry w p k < 2 ^ n) (length-entry k) (value_lt (divide p (low_bits w k) (zeros 8)))
 
 -- ---- bytes through the table
@@ -110,7 +110,7 @@ module _ (j : ℕ) (p : List Bool) (wide : length p ≡ 8 + j) where
       let k = bit_xor register byte % 256 in
       low_bits-xor (8 + j) (get_or (table_of (8 + j) p) k 0) (register / 256)
       ∙ ap (λ z. xor_bits z (low_bits (8 + j) (register / 256))) (ap (low_bits (8 + j)) (byte-entry register byte) ∙ entry-bits (8 + j) p wide k)
-      ∙ sym (enter-byte j p wide register byte fits)
+      ∙ sym (enter_low 8 j p wide register byte fits)
 
 pub table_enters : TableEnters
 unfolding enter_all_by_table bits_of enter

@@ -1,10 +1,10 @@
-// A register that bytes enter one by one through the table of a generator, of up to 32 bits, and the bytes of a check as they are
-// sent. The table is lent, so that a loop copies none.
+// A register that bytes, and the lowest bits of a byte, enter through the table of a generator, of up to 32 bits, and the bytes of a
+// check as they are sent. The table is lent, so that a loop copies none.
 #![tactic(auto)]
 
-ghost use Rattle.std.specs.Prelude.{◌≡◌};
+ghost use Rattle.std.specs.Prelude.{◌≡◌, ◌≤◌};
 ghost use Rattle.bits.specs.Bytes.{low_bits, pack};
-ghost use Rattle.registers.specs.Register.{enter_by_table};
+ghost use Rattle.registers.specs.Register.{enter_by_table, enter_bits_by_table};
 
 #[tactic(auto, unfolding(crate::specs::Register::enter_by_table))]
 pub fn enter_byte(table: &[u32; 256], register: u32, byte: u8) -> u32
@@ -12,6 +12,15 @@ pub fn enter_byte(table: &[u32; 256], register: u32, byte: u8) -> u32
 {
     let at = (register ^ (byte as u32)) % 256;
     table[at as usize] ^ (register / 256)
+}
+
+// The k lowest bits of a byte, eight at most, entered alone.
+pub fn enter_bits(table: &[u32; 256], register: u32, byte: u8, k: u32) -> u32
+    requires { k ≤ 8 }
+    ensures { result ≡ enter_bits_by_table table.now register byte k }
+{
+    let at = ((register ^ (byte as u32)) << (8 - k)) % 256;
+    table[at as usize] ^ (register >> k)
 }
 
 // The bytes of a check in the order sent: its first bit is the low bit of the first byte. Two functions, since the arrays differ in
