@@ -1,8 +1,9 @@
 // Method 5: the check of a frame by appendix 1, inverted.
 #![tactic(auto)]
 
-ghost use Rattle.std.specs.Prelude.{◌≡◌};
+ghost use Rattle.std.specs.Prelude.{◌≡◌, ◌≤◌};
 ghost use Rattle.bits.specs.Bytes.{low_bits};
+ghost use Rattle.registers.specs.Register.{enter};
 ghost use Rattle.cyclic.specs.Check.{method5, Constants, Receives};
 ghost use Rattle.cyclic.proofs.Methods.{width_5};
 
@@ -28,6 +29,17 @@ impl Cyclic5 {
 
     // What content and check leave a receiver where the check is right (003 appendix 1).
     pub const RESIDUE: u16 = 0xf0b8;
+
+    // The register after the k lowest bits of a byte, eight at most.
+    #[tactic(auto, unfolding(cyclic::specs::Check::method5))]
+    pub fn enter_bits(self, byte: u8, k: u32) -> Self
+        requires { k ≤ 8 }
+        ensures { low_bits 16 result.register ≡ enter method5.generator (low_bits 16 self.register) (low_bits k byte) }
+    {
+        Self {
+            register: Ccitt16::enter_bits(self.register, byte, k),
+        }
+    }
 }
 
 impl Cyclic for Cyclic5 {

@@ -1,8 +1,9 @@
 // Method 6: the check of a frame by appendix 2, inverted.
 #![tactic(auto)]
 
-ghost use Rattle.std.specs.Prelude.{◌≡◌};
+ghost use Rattle.std.specs.Prelude.{◌≡◌, ◌≤◌};
 ghost use Rattle.bits.specs.Bytes.{low_bits};
+ghost use Rattle.registers.specs.Register.{enter};
 ghost use Rattle.cyclic.specs.Check.{method6, Constants, Receives};
 ghost use Rattle.cyclic.proofs.Methods.{width_6};
 
@@ -28,6 +29,17 @@ impl Cyclic6 {
 
     // What content and check leave a receiver where the check is right: worked out by the formula of 003 appendix 2, which misprints it.
     pub const RESIDUE: u32 = 0xdebb20e3;
+
+    // The register after the k lowest bits of a byte, eight at most.
+    #[tactic(auto, unfolding(cyclic::specs::Check::method6))]
+    pub fn enter_bits(self, byte: u8, k: u32) -> Self
+        requires { k ≤ 8 }
+        ensures { low_bits 32 result.register ≡ enter method6.generator (low_bits 32 self.register) (low_bits k byte) }
+    {
+        Self {
+            register: Ieee32::enter_bits(self.register, byte, k),
+        }
+    }
 }
 
 impl Cyclic for Cyclic6 {

@@ -1,10 +1,12 @@
-// The generator of degree 32, of method 6: how a byte and a word enter its register, without a table, and how a word is folded.
-// Every function takes every input, and its contract gives the register bit by bit, by the rule of crate `registers`.
+// The generator of degree 32, of method 6: how a byte, its lowest bits and a word enter its register, without a table, and how a word is
+// folded. Every function but `enter_bits` takes every input, and its contract gives the register bit by bit, by the rule of crate
+// `registers`.
 #![tactic(auto)]
 
-ghost use Rattle.std.specs.Prelude.{◌≡◌};
+ghost use Rattle.std.specs.Prelude.{◌≡◌, ◌≤◌};
 ghost use Rattle.bits.specs.Bytes.{low_bits};
 ghost use Rattle.division.specs.Generators.{ieee32};
+ghost use Rattle.registers.specs.Register.{enter};
 ghost use Rattle.quotient.specs.WordMaps.{number, times_one, times_two};
 
 use folding::Generator;
@@ -36,6 +38,17 @@ fn times_two(t: u64) -> u64
 }
 
 pub struct Ieee32;
+
+impl Ieee32 {
+    // The k lowest bits of a byte, eight at most, entered alone, as those of method 5.
+    pub fn enter_bits(register: u32, byte: u8, k: u32) -> u32
+        requires { k ≤ 8 }
+        ensures { low_bits 32 result ≡ enter ieee32 (low_bits 32 register) (low_bits k byte) }
+    {
+        let last = ((register ^ (byte as u32)) << (8 - k)) & 255;
+        Self::enter_byte(last, 0) ^ (register >> k)
+    }
+}
 
 impl Generator for Ieee32 {
     type Register = u32;

@@ -6,9 +6,10 @@ use native.Mathlib.Nat.{mod-lt, mul-mod_left, add_comm, add-zero, div-eq_of_lt}
 use native.Mathlib.Omega.{arith}
 use mathlib.Core.Bool.{Bool}
 use mathlib.Core.List.{List, ◌++◌}
-use lib.Bits.{bit_xor, xor_lt}
+use lib.Bits.{bit_and, bit_xor, xor_lt}
 use lib.ListN.{length, drop, get_or, length-drop, take-append-drop}
 use lib.Pow.{pow_pos, pow_mono, mod-pow-add, mod-mod-pow, shl-shr, shr_le}
+use Rattle.std.proofs.lemmas.Nat.{and_mask}
 use Rattle.bits.specs.Strings.{xor_bits, zeros}
 use Rattle.bits.specs.Bytes.{low_bits, bits_of, value, pack_into}
 use Rattle.bits.proofs.Strings.{length-zeros, zeros-append}
@@ -25,11 +26,11 @@ shl_mod : (n k i : ℕ) → n * 2 ^ i % 2 ^ (k + i) ≡ n % 2 ^ k * 2 ^ i
 shl_mod n k i =
     mod-pow-add (n * 2 ^ i) k i ∙ ap₂ (λ a b. a % 2 ^ k * 2 ^ i + b) (shl-shr n i) (mul-mod_left n (2 ^ i)) ∙ add-zero (n % 2 ^ k * 2 ^ i)
 
--- as code moves it up in 32 bits before it takes the byte
-pub shl_byte : (n k : ℕ) → k ≤ 8 → n * 2 ^ (8 - k) % 4294967296 % 256 ≡ n % 2 ^ k * 2 ^ (8 - k)
-shl_byte n k few =
+-- as code moves it up, in a register of 8 + i bits, and takes the byte
+pub shl_byte : (i n k : ℕ) → k ≤ 8 → bit_and (n * 2 ^ (8 - k) % 2 ^ (i + 8)) 255 ≡ n % 2 ^ k * 2 ^ (8 - k)
+shl_byte i n k few =
     let e : 8 ≡ k + (8 - k) = omega arith in
-    mod-mod-pow (n * 2 ^ (8 - k)) 24 8 ∙ ap (λ m. n * 2 ^ (8 - k) % 2 ^ m) e ∙ shl_mod n k (8 - k)
+    and_mask (n * 2 ^ (8 - k) % 2 ^ (i + 8)) 8 ∙ mod-mod-pow (n * 2 ^ (8 - k)) i 8 ∙ ap (λ m. n * 2 ^ (8 - k) % 2 ^ m) e ∙ shl_mod n k (8 - k)
 
 -- behind i zeros, k bits go through as alone
 behind_zeros : (i k j : ℕ) (p : List Bool) (x : ℕ) → x < 2 ^ k
@@ -94,6 +95,15 @@ module _ (j : ℕ) (p : List Bool) (wide : length p ≡ 8 + j) (register byte k 
   entered_bits =
       low_bits-xor (8 + j) (get_or (table_of (8 + j) p) at 0) (register / 2 ^ k)
       ∙ ap (λ z. xor_bits z (low_bits (8 + j) (register / 2 ^ k))) (ap (low_bits (8 + j)) entry_at ∙ entry-bits (8 + j) p wide at ∙ at_alone)
+      ∙ sym entered_low
+
+  -- and without a table: as code has them go through a register of their own, with a byte of zeros
+  pub bits_through : (alone : ℕ) → low_bits (8 + j) alone ≡ enter p (low_bits (8 + j) at) (low_bits 8 0)
+      → low_bits (8 + j) (bit_xor alone (register / 2 ^ k)) ≡ enter p (low_bits (8 + j) register) (low_bits k byte)
+  bits_through alone e =
+      low_bits-xor (8 + j) alone (register / 2 ^ k)
+      ∙ ap (λ z. xor_bits z (low_bits (8 + j) (register / 2 ^ k)))
+      (e ∙ ap (enter p (low_bits (8 + j) at)) (low_bits-zero 8) ∙ enter-zeros p (low_bits (8 + j) at) 8 ∙ at_alone)
       ∙ sym entered_low
 
 pub table_enters_bits : TableEntersBits

@@ -53,7 +53,7 @@ tests run byte s =
     ∷ eqb (run_after run (low_bits 8 byte)) (run_before s.before)
     ∷ leb s.zeros 2 ∷ ltb s.bits (2 ^ (8 + s.zeros)) ∷ ltb s.before 16 ∷ []
 
-tests_sound : (before byte : ℕ) (s : SentByte) → T (all (tests (run_before before) byte s)) → Sends before byte s
+tests_sound : (before byte : ℕ) (s : SentByte) → T (all (tests (run_before before) byte s)) → Sends 8 before byte s
 tests_sound before byte s t =
     let a = all_each (tests (run_before before) byte s) t in
     record {
@@ -86,20 +86,20 @@ module _ (before byte : ℕ) (b : before < 16) (h : byte < 256)
       let e : fives_behind 4 before byte ≡ fifths = sym (f ∙ fives_joined 4 before byte b h (omega arith)) in
       subst T (ap (right run byte) e) (every_of 256 (fives_behind 4 before) (right run) t byte h)
 
-  sent-right : {more : ℕ} → more ≡ fives_in (high byte fifths) → Sends before byte (sent_by byte fifths more)
+  sent-right : {more : ℕ} → more ≡ fives_in (high byte fifths) → Sends 8 before byte (sent_by byte fifths more)
   unfolding right
   sent-right g =
       tests_sound before byte _ (subst (λ (m : ℕ). T (all (tests (run_before before) byte (sent_by byte fifths m)))) (sym g) right_at)
 
-  pub sent_whole : fifths ≡ 0 → Sends before byte (whole_byte byte fifths)
+  pub sent_whole : fifths ≡ 0 → Sends 8 before byte (whole_byte byte fifths)
   unfolding sent_by
   sent_whole e = simp (eq-eqb fifths 0 e) at (sent-right refl)
 
   module _ (n : fifths ≡ 0 → ⊥) {more : ℕ} (g : more ≡ fives_in (high byte fifths)) where
-    pub sent_one : more ≡ 0 → Sends before byte (one_zero byte fifths)
+    pub sent_one : more ≡ 0 → Sends 8 before byte (one_zero byte fifths)
     unfolding sent_by
     sent_one e = simp (ne_eqb fifths 0 n, eq-eqb more 0 e) at (sent-right g)
 
-    pub sent-two : (more ≡ 0 → ⊥) → Sends before byte (two_zeros byte fifths more)
+    pub sent-two : (more ≡ 0 → ⊥) → Sends 8 before byte (two_zeros byte fifths more)
     unfolding sent_by
     sent-two m = simp (ne_eqb fifths 0 n, ne_eqb more 0 m) at (sent-right g)

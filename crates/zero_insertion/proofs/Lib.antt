@@ -1,3 +1,4 @@
 pub mod Tests
 pub mod FiveOnes
 pub mod Insertion
+pub mod LowBits

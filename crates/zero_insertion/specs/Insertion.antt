@@ -1,4 +1,4 @@
--- Zero insertion in one byte of content or check. Assumes nothing.
+-- Zero insertion in one byte of content or check, or in its lowest bits. Assumes nothing.
 use Rattle.std.specs.Prelude.{◌≡◌, ℕ, ◌+◌, ◌/◌, ◌^◌, ◌<◌, ◌≤◌}
 use Rattle.std.specs.Int.Bits.{bit_and}
 use Rattle.bits.specs.Bytes.{low_bits}
@@ -13,10 +13,10 @@ fives_in x = bit_and (bit_and (bit_and x (x / 2)) (bit_and (x / 4) (x / 8))) (x 
 unfoldable pub run_before : ℕ → ℕ
 run_before before = run_after 0 (low_bits 4 before)
 
--- what a byte becomes behind four bits
-pub record Sends (before byte : ℕ) (s : SentByte) : Type 0 where
-  pub bits_are : stuff (run_before before) (low_bits 8 byte) ≡ low_bits (8 + s.zeros) s.bits
-  pub run_is : run_after (run_before before) (low_bits 8 byte) ≡ run_before s.before
+-- what the k lowest bits of a byte become behind four bits; of a whole byte k is 8
+pub record Sends (k before byte : ℕ) (s : SentByte) : Type 0 where
+  pub bits_are : stuff (run_before before) (low_bits k byte) ≡ low_bits (k + s.zeros) s.bits
+  pub run_is : run_after (run_before before) (low_bits k byte) ≡ run_before s.before
   pub few : s.zeros ≤ 2
-  pub bits_small : s.bits < 2 ^ (8 + s.zeros)
+  pub bits_small : s.bits < 2 ^ (k + s.zeros)
   pub before_small : s.before < 16

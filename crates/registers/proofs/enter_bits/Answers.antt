@@ -11,4 +11,4 @@ pub returns : goal.returns
 unfolding enter_bits_by_table
 returns c =
     let a = c.args in
-    ap (λ at. bit_xor (get_or a.table.now at 0) (a.register / 2 ^ a.k)) (shl_byte (bit_xor a.register a.byte) a.k c.requires)
+    ap (λ at. bit_xor (get_or a.table.now at 0) (a.register / 2 ^ a.k)) (shl_byte 24 (bit_xor a.register a.byte) a.k c.requires)
