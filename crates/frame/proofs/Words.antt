@@ -9,8 +9,8 @@ use native.Mathlib.Nat.{div-lt_iff_lt-mul}
 use native.Mathlib.Numerals.{add-one}
 use lib.Bits.{bit_or, or_shifted_r}
 use lib.Pow.{pow-add, pow_pos, shl_exact, shr_lt, high, low}
-use lib.ListN.{length, set, length-append, get_or, drop, drop_of_length-le}
-use lib.Seq.{sets, take_at, drop_at, take_all, drop-cons, drop-drop}
+use lib.ListN.{length, set, length-append, get_or, take, drop, drop_of_length-le}
+use lib.Seq.{sets, take_at, drop_at, take_all, take-append-add, drop-cons, drop-drop}
 use Rattle.bits.specs.Bytes.{low_bits, value, bytes_for, pack_into, pack, bits_of}
 use Rattle.bits.proofs.Bytes.{length-low_bits, low_bits-append, low_bits-mod, value-low_bits}
 
@@ -74,7 +74,17 @@ module _ (bytes : List ℕ) (i : ℕ) where
   unfolding bits_of
   bits_of-none h = ap bits_of (drop_of_length-le bytes h)
 
--- the bits behind whole bytes
+-- the bits of the first whole bytes, and those behind them
+pub bits_of-take : (i : ℕ) (bs : List ℕ) → take (8 * i) (bits_of bs) ≡ bits_of (take i bs)
+unfolding bits_of
+bits_of-take zero bs = refl
+bits_of-take (suc i) [] = let h : 0 ≤ 8 * suc i = omega arith in take_all (8 * suc i) [] h
+bits_of-take (suc i) (b ∷ bs) =
+    let l = length-low_bits 8 b in
+    let e : 8 * suc i ≡ length (low_bits 8 b) + 8 * i = omega arith in
+    ap (λ n. take n (low_bits 8 b ++ bits_of bs)) e
+    ∙ take-append-add (low_bits 8 b) (bits_of bs) (8 * i) ∙ ap (λ s. low_bits 8 b ++ s) (bits_of-take i bs)
+
 pub bits_of-drop : (i : ℕ) (bs : List ℕ) → drop (8 * i) (bits_of bs) ≡ bits_of (drop i bs)
 unfolding bits_of
 bits_of-drop zero bs = refl

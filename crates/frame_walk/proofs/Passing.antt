@@ -1,17 +1,19 @@
 -- One pass with the check: what is left to pass gives the whole. Assumes nothing.
-use mathlib.Core.Path.{◌≡◌, refl, sym, ap, ap₂, ◌∙◌}
+use mathlib.Core.Path.{◌≡◌, refl, sym, ap, ap₂, subst, ◌∙◌}
 use mathlib.Core.Bool.{Bool}
 use mathlib.Core.List.{List, ◌++◌, append_assoc}
 use Prim.Native.Nat.{ℕ, suc, ◌+◌, ◌*◌, ◌-◌, ◌/◌, ◌%◌, ◌^◌, ◌<◌, ◌≤◌}
 use native.Mathlib.Nat.{mod-eq_of_lt}
 use native.Mathlib.Omega.{arith}
+use lib.Bits.{bit_and}
 use lib.ListN.{length, take, drop, get_or, length-append}
-use lib.Seq.{slice, take_at, drop_at}
+use lib.Pow.{pow-lt, shr_lt}
+use lib.Seq.{slice, take_at, drop_at, drop-drop}
 use Rattle.std.specs.Prelude.{Some, None}
+use Rattle.std.proofs.lemmas.Nat.{and_mask}
 use Rattle.bits.specs.Bytes.{low_bits, bits_of, value, pack_into}
-use Rattle.bits.proofs.Bytes.{length-low_bits, low_bits-append, value-low_bits}
-use Rattle.bits.proofs.WholeBytes.{pack_into-none}
-use Rattle.registers.specs.Register.{enter_by_table, enter_all_by_table}
+use Rattle.bits.proofs.Bytes.{length-low_bits, low_bits-append, low_bits-value, value-low_bits, value_lt}
+use Rattle.registers.specs.Register.{enter_by_table, enter_bits_by_table, enter_all_by_table, enter_string_by_table}
 use Rattle.frame.specs.Stuffing.{Unstuffed, clean, missing, unstuff}
 use Rattle.zero_removal.specs.declared.LineReader.{LineReader}
 use Rattle.zero_removal.specs.declared.ByteRead.{ByteRead}
@@ -25,20 +27,41 @@ use Rattle.line_ends.specs.Last.{last_of, LastBits, LacksLast}
 use Rattle.frame_walk.specs.Walk.{closed, refused}
 use Rattle.frame_walk.specs.Steps.{passed}
 
--- ---- a byte entered
+-- ---- a byte entered, and fewer than eight bits
+
+string-byte : (table : List ℕ) (register byte : ℕ) (s : List Bool)
+    → enter_string_by_table table register (low_bits 8 byte ++ s) ≡ enter_string_by_table table (enter_by_table table register (byte % 256)) s
+unfolding enter_string_by_table enter_all_by_table pack_into
+string-byte table register byte s =
+    let x = low_bits 8 byte ++ s in
+    let l = length-low_bits 8 byte in
+    let m = length-append (low_bits 8 byte) s in
+    let n = length s / 8 in
+    let q : length x / 8 ≡ suc n = omega arith in
+    let r : length x % 8 ≡ length s % 8 = omega arith in
+    let e : 8 * suc n ≡ 8 + 8 * n = omega arith in
+    let v : value (take 8 x) ≡ byte % 256 = ap value (take_at (low_bits 8 byte) s 8 l) ∙ value-low_bits 8 byte in
+    let d = drop_at (low_bits 8 byte) s 8 l in
+    let whole : enter_all_by_table table register (pack_into (suc n) x) ≡ enter_all_by_table table (enter_by_table table register (byte % 256)) (pack_into n s) =
+    ap₂ (λ a b. enter_all_by_table table (enter_by_table table register a) (pack_into n b)) v d in
+    let rest : drop (8 * suc n) x ≡ drop (8 * n) s = ap (λ k. drop k x) e ∙ sym (drop-drop (8 * n) 8 x) ∙ ap (drop (8 * n)) d in
+    ap₂ (λ k i. enter_bits_by_table table (enter_all_by_table table register (pack_into k x)) (value (drop (8 * k) x)) i) q r
+    ∙ ap₂ (λ a b. enter_bits_by_table table a (value b) (length s % 8)) whole rest
+
+string-few : (table : List ℕ) (register : ℕ) (s : List Bool) → length s < 8 → enter_string_by_table table register s ≡ enter_bits_by_table table register (value s) (length s)
+unfolding enter_string_by_table enter_all_by_table pack_into
+string-few table register s h =
+    let q : length s / 8 ≡ 0 = omega (arith, h) in
+    let r : length s % 8 ≡ length s = omega (arith, h) in
+    ap₂ (λ k i. enter_bits_by_table table (enter_all_by_table table register (pack_into k s)) (value (drop (8 * k) s)) i) q r
 
 passed-byte : (table : List ℕ) (end register count b : ℕ) → b < 256 → (u : Unstuffed)
     → passed table end register count (in_front (low_bits 8 b) u) ≡ passed table end (enter_by_table table register b) (count + 8) u
-unfolding passed enter_all_by_table pack_into
+unfolding passed
 passed-byte table end register count b small (missing p) = refl
 passed-byte table end register count b small (clean s) =
-    let l = length-low_bits 8 b in
-    let m = length-append (low_bits 8 b) s in
-    let n : count + length (low_bits 8 b ++ s) ≡ count + 8 + length s = omega arith in
-    let q : length (low_bits 8 b ++ s) / 8 ≡ suc (length s / 8) = omega arith in
-    let v : value (take 8 (low_bits 8 b ++ s)) ≡ b = ap value (take_at (low_bits 8 b) s 8 l) ∙ value-low_bits 8 b ∙ mod-eq_of_lt small in
-    ap₂ (closed end) n (ap (λ k. enter_all_by_table table register (pack_into k (low_bits 8 b ++ s))) q
-    ∙ ap₂ (λ x y. enter_all_by_table table (enter_by_table table register x) (pack_into (length s / 8) y)) v (drop_at (low_bits 8 b) s 8 l))
+    let n : count + length (low_bits 8 b ++ s) ≡ count + 8 + length s = omega (arith, length-low_bits 8 b, length-append (low_bits 8 b) s) in
+    ap₂ (closed end) n (string-byte table register b s ∙ ap (λ x. enter_string_by_table table (enter_by_table table register x) s) (mod-eq_of_lt small))
 
 -- ---- the loop over whole bytes
 
@@ -140,19 +163,49 @@ module _ (table : List ℕ) (register count : ℕ) (r : LineReader) (lent : List
     left : left_at (bits_of lent) end i r ≡ clean s
     left = left_last lent end fits r ∙ ap (moved (8 * i)) found.left
 
-    pub last_part : x.byte ≡ None → closed end (count + x.bits) register ≡ passed table end register count (left_at (bits_of lent) end i r)
-    unfolding passed enter_all_by_table
-    last_part w =
-        let z : length s / 8 ≤ 0 = omega (arith, found.fewer w) in
-        ap₂ (closed end) (ap (λ k. count + k) found.counted) (sym (ap (enter_all_by_table table register) (pack_into-none (length s / 8) s z)))
-        ∙ ap (passed table end register count) (sym left)
+    -- as code holds them
+    low_held : bit_and x.held 255 ≡ value s % 256
+    low_held = and_mask x.held 8 ∙ ap (λ n. n % 256) found.holds.held_is
 
-    pub last_byte : {b : ℕ} → x.byte ≡ Some b → {next : ℕ} → next ≡ enter_by_table table register b
+    passes : {next : ℕ} → next ≡ enter_string_by_table table register s
         → closed end (count + x.bits) next ≡ passed table end register count (left_at (bits_of lent) end i r)
-    unfolding passed enter_all_by_table pack_into
-    last_byte {b} w en =
-        let f = found.first b w in
-        let q : length s / 8 ≡ 1 = omega (arith, f.0, found.below) in
-        ap₂ (closed end) (ap (λ k. count + k) found.counted)
-        (en ∙ sym (ap (λ x. enter_all_by_table table register (pack_into x s)) q ∙ ap (enter_by_table table register) f.1))
-        ∙ ap (passed table end register count) (sym left)
+    unfolding passed
+    passes e = ap₂ (closed end) (ap (λ k. count + k) found.holds.counted) e ∙ ap (passed table end register count) (sym left)
+
+    pub last_part : x.bits < 8 → {next : ℕ} → next ≡ enter_bits_by_table table register (bit_and x.held 255) x.bits
+        → closed end (count + x.bits) next ≡ passed table end register count (left_at (bits_of lent) end i r)
+    last_part h en =
+        let few : length s < 8 = omega (arith, h, found.holds.counted) in
+        let byte : value s < 2 ^ 8 = omega (arith, value_lt s, pow-lt few) in
+        passes (en
+        ∙ ap₂ (enter_bits_by_table table register) (low_held ∙ mod-eq_of_lt byte) found.holds.counted
+        ∙ sym (string-few table register s few))
+
+    -- the bits are a byte's, and those behind it
+    in_two : 8 ≤ length s → low_bits 8 (value s) ++ low_bits (length s - 8) (value s / 256) ≡ s
+    in_two h =
+        let w : 8 + (length s - 8) ≡ length s = omega (arith, h) in
+        sym (low_bits-append 8 (length s - 8) (value s)) ∙ ap (λ n. low_bits n (value s)) w ∙ low_bits-value s
+
+    pub last_byte : (x.bits < 8 → ⊥) → {whole next : ℕ} → whole ≡ enter_by_table table register (bit_and x.held 255)
+        → next ≡ enter_bits_by_table table whole (bit_and (x.held / 256) 255) (x.bits - 8)
+        → closed end (count + x.bits) next ≡ passed table end register count (left_at (bits_of lent) end i r)
+    last_byte h {whole} ew en =
+        let many : 8 ≤ length s = omega (arith, h, found.holds.counted) in
+        let k = length s - 8 in
+        let rest = low_bits k (value s / 256) in
+        let l : length rest ≡ k = length-low_bits k (value s / 256) in
+        let few : length rest < 8 = omega (arith, l, found.below, many) in
+        let wide : length s ≡ k + 8 = omega (arith, many) in
+        let high : value s / 256 < 2 ^ k = shr_lt k 8 (subst (λ (n : ℕ). value s < 2 ^ n) wide (value_lt s)) in
+        let byte : value s / 256 < 2 ^ 8 = omega (arith, high, pow-lt {i = k} {j = 8} (omega (arith, found.below, many))) in
+        let held : bit_and (x.held / 256) 255 ≡ value rest =
+        and_mask (x.held / 256) 8 ∙ ap (λ n. n / 256 % 256) found.holds.held_is ∙ mod-eq_of_lt byte
+        ∙ sym (value-low_bits k (value s / 256) ∙ mod-eq_of_lt high) in
+        let bits : x.bits - 8 ≡ length rest = omega (arith, found.holds.counted, l) in
+        passes (en
+        ∙ ap₂ (enter_bits_by_table table whole) held bits
+        ∙ sym (string-few table whole rest few)
+        ∙ ap (λ w. enter_string_by_table table w rest) (ew ∙ ap (enter_by_table table register) low_held)
+        ∙ sym (string-byte table register (value s) rest)
+        ∙ ap (enter_string_by_table table register) (in_two many))

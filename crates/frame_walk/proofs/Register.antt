@@ -1,46 +1,43 @@
--- The register that the whole bytes entered through the method's table holds their formula. Assumes nothing.
+-- The register that the bits entered through the method's table holds their formula. Assumes nothing.
 use mathlib.Core.Path.{◌≡◌, refl, sym, ap, ap₂, subst, ◌∙◌}
 use mathlib.Core.Bool.{Bool}
 use mathlib.Core.List.{List, ◌++◌}
-use Prim.Native.Nat.{ℕ, ◌+◌, ◌/◌, ◌^◌, ◌<◌}
+use Prim.Native.Nat.{ℕ, ◌+◌, ◌^◌, ◌<◌}
 use native.Mathlib.Nat.{mod-eq_of_lt, zero-add}
 use native.Mathlib.Omega.{arith}
 use lib.ListN.{length}
 use Rattle.bits.specs.Strings.{xor_bits, zeros}
-use Rattle.bits.specs.Bytes.{low_bits, value, pack_into}
+use Rattle.bits.specs.Bytes.{low_bits, value}
 use Rattle.bits.proofs.Bytes.{value-low_bits}
-use Rattle.bits.proofs.WholeBytes.{bits_of-pack_into}
 use Rattle.division.specs.Division.{remainder}
 use Rattle.cyclic.specs.Check.{Parameters, formula}
 use Rattle.cyclic.specs.Laws.{OfWidth}
-use Rattle.registers.specs.Register.{table_of, enter, enter_all_by_table}
+use Rattle.registers.specs.Register.{table_of, enter, enter_string_by_table}
 use Rattle.registers.proofs.Enter.{enter_is_formula}
-use Rattle.registers.proofs.Table.{entered_by, enter_all_by_table_lt}
+use Rattle.registers.proofs.Bits.{table_enters_string, enter_string_by_table_lt}
 use Rattle.frame.specs.Stuffing.{Unstuffed, clean, missing}
-use Rattle.frame_walk.specs.Walk.{Walked, closed, whole_bytes, walk_zeros}
+use Rattle.frame_walk.specs.Walk.{Walked, closed, walk_zeros}
 use Rattle.frame_walk.specs.Steps.{passed}
 
 module _ (j : ℕ) (m : Parameters) (o : OfWidth (8 + j) m) {start : ℕ} (began : low_bits (8 + j) start ≡ m.start) (fits : start < 2 ^ (8 + j))
     {table : List ℕ} (t : table ≡ table_of (8 + j) m.generator)
   where
-    register_bits : (s : List Bool) → low_bits (8 + j) (enter_all_by_table table start (pack_into (length s / 8) s)) ≡ formula m (whole_bytes s)
+    register_bits : (s : List Bool) → low_bits (8 + j) (enter_string_by_table table start s) ≡ formula m s
     unfolding formula
     register_bits s =
         let p = m.generator in
         let wide = o.generator.width in
-        let n = length s / 8 in
-        let w = whole_bytes s in
-        entered_by j p wide start (pack_into n s) t refl fits
-        ∙ ap₂ (enter p) began (bits_of-pack_into n s (omega arith))
-        ∙ enter_is_formula (8 + j) p m.start w (omega arith) wide o.start-length
-        ∙ ap (λ k. remainder p (xor_bits (w ++ zeros k) (m.start ++ zeros (length w)))) (sym wide)
+        ap (λ z. low_bits (8 + j) (enter_string_by_table z start s)) t
+        ∙ table_enters_string j p wide start s fits
+        ∙ ap (λ r. enter p r s) began
+        ∙ enter_is_formula (8 + j) p m.start s (omega arith) wide o.start-length
+        ∙ ap (λ k. remainder p (xor_bits (s ++ zeros k) (m.start ++ zeros (length s)))) (sym wide)
 
-    register_value : (s : List Bool) → enter_all_by_table table start (pack_into (length s / 8) s) ≡ value (formula m (whole_bytes s))
+    register_value : (s : List Bool) → enter_string_by_table table start s ≡ value (formula m s)
     register_value s =
-        let n = pack_into (length s / 8) s in
-        let r = enter_all_by_table table start n in
+        let r = enter_string_by_table table start s in
         let below : r < 2 ^ (8 + j) =
-        subst (λ (z : List ℕ). enter_all_by_table z start n < 2 ^ (8 + j)) (sym t) (enter_all_by_table_lt j m.generator o.generator.width start n fits) in
+        subst (λ (z : List ℕ). enter_string_by_table z start s < 2 ^ (8 + j)) (sym t) (enter_string_by_table_lt j m.generator o.generator.width start s fits) in
         sym (ap value (sym (register_bits s)) ∙ value-low_bits (8 + j) r ∙ mod-eq_of_lt below)
 
     -- so a pass with the method's table and start is the rule's walk

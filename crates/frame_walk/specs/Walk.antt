@@ -1,6 +1,6 @@
 -- The walk over the bits of a frame: questions 31 to 33 in turn (document 01, "Questions before a line is taken"), then what stands
 -- between the flags. Assumes nothing.
-use Rattle.std.specs.Prelude.{ℕ, ◌-◌, ◌*◌, ◌/◌, Bool, cond, List, leb, length, take, drop, Result, Ok, Err}
+use Rattle.std.specs.Prelude.{ℕ, ◌-◌, ◌*◌, Bool, cond, List, leb, length, take, drop, Result, Ok, Err}
 use Rattle.bits.specs.Strings.{same}
 use Rattle.bits.specs.Bytes.{bits_of, value}
 use Rattle.cyclic.specs.Check.{Parameters, formula}
@@ -11,8 +11,8 @@ use Rattle.frame.specs.Answers.{read_number, read_value}
 use Rattle.frame.specs.declared.ReadRefusal.{ReadRefusal}
 use Rattle.frame_walk.specs.declared.Walk.{Walk}
 
--- the place of the closing flag, the number of bits of content and check, and the register of the check after their whole bytes; or
--- number and value of a refusal
+-- the place of the closing flag, the number of bits of content and check, and the register of the check after them; or number and
+-- value of a refusal
 pub data Walked : Type 0 where
   closed : ℕ → ℕ → ℕ → Walked
   refused : ℕ → ℕ → Walked
@@ -24,14 +24,10 @@ of_walk (Err r) = refused (read_number r) (read_value r)
 abbrev pub ask : Bool → ℕ → ℕ → Walked → Walked
 ask holds number value next = cond holds next (refused number value)
 
--- the bits of the whole bytes
-abbrev pub whole_bytes : List Bool → List Bool
-whole_bytes s = take (8 * (length s / 8)) s
-
 -- between the flags, a zero after every five ones? 33, with the place of the bit after them. The register holds the formula
 unfoldable pub walk_zeros : Parameters → ℕ → Unstuffed → Walked
 walk_zeros m end (missing p) = refused 33 p
-walk_zeros m end (clean s) = closed end (length s) (value (formula m (whole_bytes s)))
+walk_zeros m end (clean s) = closed end (length s) (value (formula m s))
 
 -- at least 16 bits, first and last 8 a flag? 32
 unfoldable pub walk_bits : Parameters → List Bool → Walked

@@ -1,10 +1,10 @@
 // One walk over the bits of a frame (document 01, part 4): questions 31 to 33, how many bits content and check have, and the register
-// of the check after their whole bytes. `walk_frame` takes every input.
+// of the check after them. `walk_frame` takes every input.
 #![tactic(auto)]
 
 ghost use Rattle.std.specs.Prelude.{◌+◌, ◌*◌, ◌^◌, ◌<◌, ◌≤◌, length};
 
-// The place of the closing flag, how many bits content and check have, and the register of the check after their whole bytes.
+// The place of the closing flag, how many bits content and check have, and the register of the check after them.
 #[derive(Clone, Copy, Debug)]
 pub struct Walk {
     pub end: usize,

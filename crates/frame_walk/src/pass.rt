@@ -1,5 +1,5 @@
 // One pass over the line between the flags: question 33, how many bits content and check have, and the register of the check after
-// their whole bytes. The table is that of the method's generator, of 16 or of 32 bits.
+// them: their whole bytes, then the bits left over. The table is that of the method's generator, of 16 or of 32 bits.
 ghost use Rattle.std.specs.Prelude.{◌≡◌, ◌+◌, ◌*◌, ◌/◌, ◌^◌, ◌<◌, ◌≤◌};
 ghost use Rattle.std.proofs.Math.Seq.{slice};
 ghost use Rattle.bits.specs.Bytes.{bits_of};
@@ -11,7 +11,7 @@ ghost use Rattle.frame_walk.specs.Steps.{passed, zero_missing_at};
 use crate::{Line, Walk};
 use frame::{BitPlace, ReadRefusal};
 use line_ends::read_last;
-use registers::enter_byte;
+use registers::{enter_bits, enter_byte};
 use zero_removal::{LineReader, MissingZero, read_bits, unstuff_byte};
 
 // Question 33: where in the frame a byte of the line lacks a zero.
@@ -23,7 +23,7 @@ fn zero_missing(index: usize, at: MissingZero) -> ReadRefusal
 }
 
 impl Line<'_> {
-    // The bits behind the whole bytes of the line: at most one byte of content and check is whole there.
+    // The bits behind the whole bytes of the line: fewer than two bytes of content and check.
     fn last(
         self,
         table: &[u32; 256],
@@ -38,17 +38,19 @@ impl Line<'_> {
         let index = end / 8;
         let left = read_last(r, self.lent[index], end % 8).map_err(|at| zero_missing(index, at))?;
         let count = count + left.bits as usize;
-        let Some(byte) = left.byte else {
+        let byte = (left.held & 255) as u8;
+        if left.bits < 8 {
             return Ok(Walk {
                 end,
                 count,
-                register,
+                register: enter_bits(table, register, byte, left.bits),
             });
-        };
+        }
+        let whole = enter_byte(table, register, byte);
         Ok(Walk {
             end,
             count,
-            register: enter_byte(table, register, byte),
+            register: enter_bits(table, whole, ((left.held >> 8) & 255) as u8, left.bits - 8),
         })
     }
 

@@ -1,11 +1,12 @@
 -- The writer's steps: a byte with its zeros is put, and what is left to put or to count gives the whole. Assumes nothing.
 use mathlib.Core.Path.{◌≡◌, refl, sym, ap, ap₂, ◌∙◌, subst}
-use Prim.Native.Nat.{ℕ, ◌+◌, ◌-◌, ◌*◌, ◌/◌, ◌%◌, ◌^◌, ◌≤◌, ◌<◌}
+use Prim.Native.Nat.{ℕ, ◌+◌, ◌*◌, ◌/◌, ◌%◌, ◌^◌, ◌≤◌, ◌<◌}
+use native.Mathlib.Nat.{add_comm}
 use native.Mathlib.Omega.{arith}
 use mathlib.Core.Bool.{Bool}
 use mathlib.Core.List.{List, [], ◌++◌, append_assoc, append-nil}
 use lib.Bits.{bit_and, bit_or}
-use lib.Pow.{shr-shr}
+use lib.Pow.{shr-shr, shr_lt}
 use lib.ListN.{length, set, length-append}
 use lib.Seq.{sets}
 use Rattle.std.proofs.lemmas.Nat.{and_mask}
@@ -26,120 +27,140 @@ use Rattle.frame.proofs.Words.{join, joined-or, joined_small, joined-bits, byte-
 abbrev pub run : BitCount → ℕ
 run c = run_before c.before
 
--- ---- a byte
+-- ---- a byte, or its lowest bits
 
-pub sent-length : {before byte : ℕ} {s : SentByte} → Sends before byte s → length (stuff (run_before before) (low_bits 8 byte)) ≡ 8 + s.zeros
-sent-length {s = s} e = ap length e.bits_are ∙ length-low_bits (8 + s.zeros) s.bits
+module _ (k byte : ℕ) where
+  pub sent-length : {before : ℕ} {s : SentByte} → Sends k before byte s → length (stuff (run_before before) (low_bits k byte)) ≡ k + s.zeros
+  sent-length {s = s} e = ap length e.bits_are ∙ length-low_bits (k + s.zeros) s.bits
 
-pub count_sent : {c r : BitCount} (byte : ℕ) {s : SentByte} → Sends c.before byte s → Follows c s.zeros s.before r → Counts c (low_bits 8 byte) r
-count_sent {c} byte e follows =
-    record {
-      pair_is = follows.pair_is ∙ ap (λ n. stepped n (pair c.at)) (sym (sent-length e));
-      run_is = ap run_before follows.before_is ∙ sym e.run_is;
-    }
+  pub count_sent : {c r : BitCount} {s : SentByte} → Sends k c.before byte s → Follows c (k + s.zeros) s.before r → Counts c (low_bits k byte) r
+  count_sent {c} e follows =
+      record {
+        pair_is = follows.pair_is ∙ ap (λ n. stepped n (pair c.at)) (sym (sent-length e));
+        run_is = ap run_before follows.before_is ∙ sym e.run_is;
+      }
 
-module _ (out : List ℕ) (w : BitWriter) (byte : ℕ) {s : SentByte} (e : Sends w.count.before byte s) where
+module _ (out : List ℕ) (w : BitWriter) (k byte : ℕ) (eight : k ≤ 8) {s : SentByte} (e : Sends k w.count.before byte s) where
   abbrev bits : List Bool
-  bits = stuff (run w.count) (low_bits 8 byte)
+  bits = stuff (run w.count) (low_bits k byte)
 
-  -- held bits and those of the byte
+  abbrev index : ℕ
+  index = w.count.at.index
+
+  abbrev place : ℕ
+  place = w.count.at.place
+
+  -- held bits and those that are sent
   abbrev word : ℕ
-  word = join w.count.at.place w.held s.bits
+  word = join place w.held s.bits
 
-  abbrev left : ℕ
-  left = w.count.at.place + s.zeros
-
-  length-bits : length bits ≡ 8 + s.zeros
-  length-bits = sent-length e
+  abbrev all : ℕ
+  all = place + (k + s.zeros)
 
   -- the same as code makes it
   abbrev code_word : ℕ
-  code_word = bit_or w.held (s.bits * 2 ^ w.count.at.place % 4294967296)
+  code_word = bit_or w.held (s.bits * 2 ^ place % 4294967296)
 
   word-or : code_word ≡ word
-  word-or = joined-or w.count.at.place w.held (8 + s.zeros) s.bits w.held_small e.bits_small (omega (arith, e.few, w.count.at.place_small))
+  word-or = joined-or place w.held (k + s.zeros) s.bits w.held_small e.bits_small (omega (arith, e.few, eight, w.count.at.place_small))
 
-  word_small : word < 2 ^ (left + 8)
+  word_small : code_word < 2 ^ all
   word_small =
-      let q : 8 + s.zeros + w.count.at.place ≡ left + 8 = omega arith in
-      subst (λ (k : ℕ). word < 2 ^ k) q (joined_small w.count.at.place w.held (8 + s.zeros) s.bits w.held_small e.bits_small)
+      rw word-or (subst (λ (n : ℕ). word < 2 ^ n) (add_comm (k + s.zeros) place) (joined_small place w.held (k + s.zeros) s.bits w.held_small e.bits_small))
 
-  word_bits_lem : (t : List Bool) → low_bits w.count.at.place w.held ++ (bits ++ t) ≡ low_bits 8 word ++ (low_bits left (word / 256) ++ t)
-  word_bits_lem t =
-      let q : w.count.at.place + (8 + s.zeros) ≡ 8 + left = omega arith in
-      sym (append_assoc (low_bits w.count.at.place w.held) bits t)
+  -- those are all the bits: in `all` bits of the word
+  stored_all : (t : List Bool) → stored out w (bits ++ t) ≡ sets out index (pack (low_bits all word ++ t))
+  stored_all t =
+      ap (λ z. sets out index (pack z))
+      (sym (append_assoc (low_bits place w.held) bits t)
       ∙ ap (λ z. z ++ t)
-      (ap (λ z. low_bits w.count.at.place w.held ++ z) e.bits_are
-      ∙ joined-bits w.count.at.place w.held (8 + s.zeros) s.bits w.held_small e.bits_small
-      ∙ ap (λ k. low_bits k word) q ∙ byte-bits left word)
-      ∙ append_assoc (low_bits 8 word) (low_bits left (word / 256)) t
+      (ap (λ z. low_bits place w.held ++ z) e.bits_are ∙ joined-bits place w.held (k + s.zeros) s.bits w.held_small e.bits_small))
 
-  -- the first byte stored
-  stored_once : (t : List Bool) → stored out w (bits ++ t) ≡ sets (set out w.count.at.index (word % 256)) (w.count.at.index + 1) (pack (low_bits left (word / 256) ++ t))
-  stored_once t = ap (λ z. sets out w.count.at.index (pack z)) (word_bits_lem t) ∙ store_byte out w.count.at.index word (low_bits left (word / 256) ++ t)
+  -- the first byte stored, and a second one
+  stored_once : (left : ℕ) → all ≡ 8 + left → (t : List Bool)
+      → stored out w (bits ++ t) ≡ sets (set out index (word % 256)) (index + 1) (pack (low_bits left (word / 256) ++ t))
+  stored_once left n t =
+      stored_all t
+      ∙ ap (λ z. sets out index (pack z))
+      (ap (λ z. z ++ t) (ap (λ n. low_bits n word) n ∙ byte-bits left word) ∙ append_assoc (low_bits 8 word) (low_bits left (word / 256)) t)
+      ∙ store_byte out index word (low_bits left (word / 256) ++ t)
 
-  once_small : code_word / 256 < 2 ^ left
-  once_small = rw word-or (rest_small left word_small)
+  stored_twice : (left : ℕ) → all ≡ 16 + left → (t : List Bool)
+      → stored out w (bits ++ t)
+      ≡ sets (set (set out index (word % 256)) (index + 1) (word / 256 % 256)) (index + 2) (pack (low_bits left (word / 65536) ++ t))
+  stored_twice left n t =
+      let o = set out index (word % 256) in
+      let two : index + 1 + 1 ≡ index + 2 = omega arith in
+      let n1 : all ≡ 8 + (8 + left) = omega (arith, n) in
+      stored_once (8 + left) n1 t
+      ∙ ap (λ z. sets o (index + 1) (pack z))
+      (ap (λ z. z ++ t) (byte-bits left (word / 256)) ∙ append_assoc (low_bits 8 (word / 256)) (low_bits left (word / 256 / 256)) t)
+      ∙ store_byte o (index + 1) (word / 256) (low_bits left (word / 256 / 256) ++ t)
+      ∙ ap₂ (λ i x. sets (set o (index + 1) (word / 256 % 256)) i (pack (low_bits left x ++ t))) two (shr-shr word 8 8)
 
-  abbrev twice : ℕ
-  twice = left - 8
+  -- the position behind the bits: in the byte, in the next one, or in that behind it
+  module _ {n : BitCount} (follows : Follows w.count (k + s.zeros) s.before n) where
+    pub bits_are : bits_before n.at ≡ bits_before w.count.at + (k + s.zeros)
+    bits_are = bits_stepped w.count.at n.at (k + s.zeros) follows.pair_is
 
-  word_again : word / 256 / 256 ≡ word / 65536
-  word_again = shr-shr word 8 8
+    place_same : n.at.index ≡ index → all ≡ n.at.place
+    place_same i = omega (arith, i, bits_are)
 
-  twice_small : 8 ≤ left → code_word / 65536 < 2 ^ twice
-  twice_small l =
-      let q : left ≡ twice + 8 = omega arith in
-      let small : word / 256 < 2 ^ (twice + 8) = subst (λ (k : ℕ). word / 256 < 2 ^ k) q (rest_small left word_small) in
-      rw word-or (subst (λ (k : ℕ). k < 2 ^ twice) word_again (rest_small twice small))
-
-  -- the position behind the byte: in the next one, or in that behind it
-  module _ {n : BitCount} (follows : Follows w.count s.zeros s.before n) where
-    bits_are : bits_before n.at ≡ bits_before w.count.at + (8 + s.zeros)
-    bits_are = bits_stepped w.count.at n.at (8 + s.zeros) follows.pair_is
-
-    place_once : n.at.index ≡ w.count.at.index + 1 → left ≡ n.at.place
+    place_once : n.at.index ≡ index + 1 → all ≡ 8 + n.at.place
     place_once i = omega (arith, i, bits_are)
 
-    pub held_once : n.at.index ≡ w.count.at.index + 1 → code_word / 256 < 2 ^ n.at.place
-    held_once i = subst (λ (p : ℕ). code_word / 256 < 2 ^ p) (place_once i) once_small
+    place_twice : n.at.index ≡ index + 2 → all ≡ 16 + n.at.place
+    place_twice i = omega (arith, i, bits_are)
 
-    pub position_twice : (n.at.index ≡ w.count.at.index + 1 → ⊥) → (8 ≤ left) × (n.at.index ≡ w.count.at.index + 2) × (twice ≡ n.at.place)
-    position_twice more =
-        let far : w.count.at.index + 2 ≤ n.at.index = omega (arith, more, bits_are, n.at.place_small, w.count.at.place_small) in
-        (omega (arith, far, bits_are), omega (arith, far, bits_are, e.few, w.count.at.place_small), omega (arith, far, bits_are, e.few, w.count.at.place_small))
+    pub behind_next : (n.at.index ≡ index → ⊥) → (n.at.index ≡ index + 1 → ⊥) → n.at.index ≡ index + 2
+    behind_next here next =
+        let far : index + 2 ≤ n.at.index = omega (arith, here, next, bits_are, n.at.place_small, w.count.at.place_small) in
+        omega (arith, far, bits_are, e.few, eight, w.count.at.place_small)
 
-    pub held_twice : (n.at.index ≡ w.count.at.index + 1 → ⊥) → code_word / 65536 < 2 ^ n.at.place
-    held_twice more =
-        let p = position_twice more in
-        subst (λ (k : ℕ). code_word / 65536 < 2 ^ k) p.2 (twice_small p.0)
+    -- a whole byte moves on by a byte at least
+    pub moves_on : k ≡ 8 → n.at.index ≡ index → ⊥
+    moves_on q i = omega (arith, q, i, bits_are, n.at.place_small)
 
-  module _ {b : ℕ} (eb : b ≡ bit_and code_word 255) {r : BitWriter} (follows : Follows w.count s.zeros s.before r.count) where
-    pub put_once : r.count.at.index ≡ w.count.at.index + 1 → r.held ≡ code_word / 256 → Puts out w (low_bits 8 byte) (set out w.count.at.index b) r
-    put_once ei er =
-        let ep = place_once follows ei in
+    pub held_same : n.at.index ≡ index → code_word < 2 ^ n.at.place
+    held_same i = subst (λ (p : ℕ). code_word < 2 ^ p) (place_same i) word_small
+
+    pub held_once : n.at.index ≡ index + 1 → code_word / 256 < 2 ^ n.at.place
+    held_once i =
+        let q : all ≡ n.at.place + 8 = omega (arith, place_once i) in
+        rest_small n.at.place (subst (λ (p : ℕ). code_word < 2 ^ p) q word_small)
+
+    pub held_twice : n.at.index ≡ index + 2 → code_word / 65536 < 2 ^ n.at.place
+    held_twice i =
+        let q : all ≡ n.at.place + 16 = omega (arith, place_twice i) in
+        shr_lt n.at.place 16 (subst (λ (p : ℕ). code_word < 2 ^ p) q word_small)
+
+  first_byte : {b : ℕ} → b ≡ bit_and code_word 255 → b ≡ word % 256
+  first_byte eb = eb ∙ and_mask code_word 8 ∙ ap (λ x. x % 256) word-or
+
+  module _ {r : BitWriter} (follows : Follows w.count (k + s.zeros) s.before r.count) where
+    pub put_same : r.count.at.index ≡ index → r.held ≡ code_word → Puts out w (low_bits k byte) out r
+    put_same ei er =
         record {
-          counts = count_sent byte e follows;
-          rest = λ t. rw (ei, sym ep, er, eb ∙ and_mask code_word 8, word-or) (sym (stored_once t));
+          counts = count_sent k byte e follows;
+          rest = λ t. rw (ei, sym (place_same follows ei), er, word-or) (sym (stored_all t));
         }
 
-    pub put_twice : (r.count.at.index ≡ w.count.at.index + 1 → ⊥) → {d : ℕ} → d ≡ bit_and (code_word / 256) 255 → r.held ≡ code_word / 65536
-        → Puts out w (low_bits 8 byte) (set (set out w.count.at.index b) (w.count.at.index + 1) d) r
-    put_twice more {d} ed er =
-        let p = position_twice follows more in
-        let two : w.count.at.index + 1 + 1 ≡ w.count.at.index + 2 = omega arith in
-        let all : 8 + twice ≡ left = omega (arith, p.0) in
-        record {
-          counts = count_sent byte e follows;
-          rest = λ t.
-              let o = set out w.count.at.index (word % 256) in
-              rw (p.1, sym p.2, er, ed ∙ and_mask (code_word / 256) 8, eb ∙ and_mask code_word 8, word-or)
-              (sym (stored_once t
-              ∙ ap (λ z. sets o (w.count.at.index + 1) (pack (z ++ t))) (ap (λ k. low_bits k (word / 256)) (sym all) ∙ byte-bits twice (word / 256))
-              ∙ ap (λ z. sets o (w.count.at.index + 1) (pack z)) (append_assoc (low_bits 8 (word / 256)) (low_bits twice (word / 256 / 256)) t)
-              ∙ store_byte o (w.count.at.index + 1) (word / 256) (low_bits twice (word / 256 / 256) ++ t)
-              ∙ ap₂ (λ i x. sets (set o (w.count.at.index + 1) (word / 256 % 256)) i (pack (low_bits twice x ++ t))) two word_again));
-        }
+    module _ {b : ℕ} (eb : b ≡ bit_and code_word 255) where
+      pub put_once : r.count.at.index ≡ index + 1 → r.held ≡ code_word / 256 → Puts out w (low_bits k byte) (set out index b) r
+      put_once ei er =
+          record {
+            counts = count_sent k byte e follows;
+            rest = λ t. rw (ei, er, first_byte eb, word-or) (sym (stored_once r.count.at.place (place_once follows ei) t));
+          }
+
+      pub put_twice : r.count.at.index ≡ index + 2 → {d : ℕ} → d ≡ bit_and (code_word / 256) 255 → r.held ≡ code_word / 65536
+          → Puts out w (low_bits k byte) (set (set out index b) (index + 1) d) r
+      put_twice ei {d} ed er =
+          let second : d ≡ word / 256 % 256 = ed ∙ and_mask (code_word / 256) 8 ∙ ap (λ x. x / 256 % 256) word-or in
+          record {
+            counts = count_sent k byte e follows;
+            rest = λ t. rw (ei, er, first_byte eb, second, word-or) (sym (stored_twice r.count.at.place (place_twice follows ei) t));
+          }
 
 -- ---- a loop that counts
 
@@ -216,9 +237,3 @@ put_whole {after = after} {w = w} p e =
       counts = count_whole p.counting e;
       rest = λ t. sym (ap (λ z. stored after w (stuff (run w.count) z ++ t)) e) ∙ p.left t;
     }
-
--- two parts one after the other
-pub puts_append : {before between after : List ℕ} {start w r : BitWriter} (s t : List Bool) → Puts before start s between w → length between ≡ length before
-    → Puts between w t after r → length after ≡ length between → Puts before start (s ++ t) after r
-puts_append {before} {start = start} s t p k q l =
-    put_whole (put_turn t (put_turn s (put_begin before start (s ++ t)) refl p k) (sym (append-nil t)) q l) refl

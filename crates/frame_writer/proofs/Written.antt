@@ -1,36 +1,42 @@
 -- A frame as a whole: its parts counted or put one after the other between two flags are the rule's frame. Assumes nothing.
 use mathlib.Core.Path.{◌≡◌, refl, sym, ap, ap₂, ◌∙◌, subst}
-use Prim.Native.Nat.{ℕ, ◌+◌, ◌*◌, ◌/◌, ◌%◌, ◌^◌, ◌≤◌, ◌<◌}
+use Prim.Native.Nat.{ℕ, ◌+◌, ◌-◌, ◌*◌, ◌/◌, ◌%◌, ◌^◌, ◌≤◌, ◌<◌}
 use native.Mathlib.Nat.{add_comm, mod-eq_of_lt, lt_trans}
 use lib.Bits.{bit_and, bit_or}
 use lib.Pow.{pow-lt}
 use native.Mathlib.Omega.{arith}
 use mathlib.Core.Bool.{Bool, true, false, cond}
-use mathlib.Core.List.{List, [], ◌∷◌, ◌++◌}
+use mathlib.Core.List.{List, [], ◌∷◌, ◌++◌, append_assoc, append-nil}
 use lib.Dec.{eqb, lit<}
-use lib.ListN.{length, drop, set, length-append}
-use lib.Seq.{sets, sets-eq}
+use lib.ListN.{length, take, drop, get_or, set, length-append}
+use lib.Seq.{sets, sets-eq, take_at, take-add}
 use borrow.Author.Tests.{eqb-true, le-leb, lt-leb}
 use Rattle.std.proofs.lemmas.Nat.{and_mask}
 use Rattle.bits.specs.Bytes.{low_bits, bits_of, bytes_for, pack_into, pack}
 use Rattle.bits.specs.Calls.{called}
-use Rattle.bits.proofs.Bytes.{length-low_bits, length-bits_of}
+use Rattle.bits.proofs.Bytes.{length-low_bits, low_bits-append, length-bits_of}
 use Rattle.bits.proofs.Packing.{bits_of-little_endian, pack-low_bits, length-pack}
-use Rattle.cyclic.specs.Check.{Parameters, check_bits, checked_bits}
+use Rattle.registers.specs.Register.{enter}
+use Rattle.registers.proofs.Enter.{enter-append}
+use Rattle.cyclic.specs.Check.{Parameters, invert_if, check_bits, checked_bits}
+use Rattle.cyclic.specs.Laws.{OfWidth}
+use Rattle.cyclic.proofs.Methods.{holds_check}
 use Rattle.frame_writer.specs.declared.Position.{Position}
 use Rattle.frame_writer.specs.declared.BitCount.{BitCount}
 use Rattle.frame_writer.specs.declared.BitWriter.{BitWriter}
+use Rattle.frame_writer.specs.declared.Checked.{Checked}
 use Rattle.frame.specs.Stuffing.{is_fifth, run_on, zero_if, stuff, run_after}
-use Rattle.frame.specs.Frame.{flag, enclose, frame_of}
-use Rattle.frame.specs.Write.{WriteAnswer, written, ask_room, write_frame, write_output}
+use Rattle.frame.specs.Frame.{limit_bits, flag, enclose, frame_of}
+use Rattle.frame.specs.Write.{WriteAnswer, written, ask_room, write_bits, write_frame, write_output}
 use Rattle.frame.specs.Answers.{Numbers, frame, refused, after_writing}
 use Rattle.zero_insertion.specs.Insertion.{run_before}
 use Rattle.frame_writer.specs.Stepping.{pair, stepped}
-use Rattle.frame_writer.specs.Steps.{Opens, bits_before, stored, Counts, Puts}
+use Rattle.frame_writer.specs.Steps.{checked, Opens, bits_before, stored, Counts, Puts}
 use Rattle.frame.proofs.Stuffing.{run_on_le}
+use Rattle.frame.proofs.Told.{told_length}
 use Rattle.frame_writer.proofs.Stepping.{divided, pair_divided, bits_stepped, bits_opened}
-use Rattle.frame_writer.proofs.Writers.{run, Putting, put_begin, put_turn, puts_append}
-use Rattle.frame.proofs.Words.{join, joined-or, joined_small, joined-bits, byte-bits, store_byte, pack_part, rest_small}
+use Rattle.frame_writer.proofs.Writers.{run, counts_append, Putting, put_begin, put_turn, put_whole}
+use Rattle.frame.proofs.Words.{join, joined-or, joined_small, joined-bits, byte-bits, store_byte, pack_part, rest_small, bits_of_on, bits_of-take, bits_of-drop}
 
 -- ---- between two flags
 
@@ -135,6 +141,41 @@ module _ (out : List ℕ) (w : BitWriter) where
         ap₂ (λ x y. set (set out w.count.at.index x) (w.count.at.index + 1) y) first_byte (ed ∙ and_mask (code_word / 256) 8 ∙ ap (λ x. x / 256 % 256) word-or ∙ v)
         ∙ sym (stored-flag ∙ ap (sets (set out w.count.at.index (word % 256)) (w.count.at.index + 1)) (pack_part w.count.at.place (word / 256) p w.count.at.place_small))
 
+-- ---- a content
+
+-- whole bytes, and the lowest bits of the byte behind them where there are any
+pub content_parts : (lent : List ℕ) (bits last : ℕ) → bits ≤ 8 * length lent → (bits % 8 ≡ 0 → ⊥) → last ≡ get_or lent (bits / 8) 0
+    → bits_of (take (bits / 8) lent) ++ low_bits (bits % 8) last ≡ take bits (bits_of lent)
+content_parts lent bits last h n e =
+    let i = bits / 8 in
+    let k = bits % 8 in
+    let b = get_or lent i 0 in
+    let q : bits ≡ 8 * i + k = omega arith in
+    let w : 8 ≡ k + (8 - k) = omega arith in
+    let rest = bits_of (drop (i + 1) lent) in
+    let high = low_bits (8 - k) (b / 2 ^ k) in
+    ap₂ (λ x y. x ++ low_bits k y) (sym (bits_of-take i lent)) e
+    ∙ ap (λ z. take (8 * i) (bits_of lent) ++ z)
+    (sym (ap (take k) (bits_of-drop i lent ∙ bits_of_on lent i (omega (arith, n, h)) ∙ ap (λ s. s ++ rest) (ap (λ w. low_bits w b) w ∙ low_bits-append k (8 - k) b) ∙ append_assoc (low_bits k b) high rest)
+    ∙ take_at (low_bits k b) (high ++ rest) k (length-low_bits k b)))
+    ∙ sym (take-add (8 * i) k (bits_of lent)) ∙ ap (λ n. take n (bits_of lent)) (sym q)
+
+-- whole bytes alone
+pub content_whole : (lent : List ℕ) (bits last : ℕ) → bits % 8 ≡ 0 → bits_of (take (bits / 8) lent) ++ low_bits (bits % 8) last ≡ take bits (bits_of lent)
+unfolding low_bits
+content_whole lent bits last z =
+    let q : 8 * (bits / 8) ≡ bits = omega (arith, z) in
+    ap (λ k. bits_of (take (bits / 8) lent) ++ low_bits k last) z ∙ append-nil (bits_of (take (bits / 8) lent))
+    ∙ sym (bits_of-take (bits / 8) lent) ∙ ap (λ n. take n (bits_of lent)) q
+
+-- the register after the whole bytes and the last bits holds the check
+pub checks : (w : ℕ) (m : Parameters) → OfWidth w m → (bytes : List ℕ) (last start between after check : List Bool)
+    → start ≡ m.start → between ≡ enter m.generator start (bits_of bytes) → after ≡ enter m.generator between last
+    → check ≡ invert_if m.inverted after → check ≡ check_bits m (bits_of bytes ++ last)
+checks w m o bytes last start between after check s b a =
+    holds_check w m o (bits_of bytes ++ last) start after check s
+    (a ∙ ap (λ r. enter m.generator r last) b ∙ sym (enter-append m.generator start (bits_of bytes) last))
+
 -- ---- how long a frame is
 
 -- five bits take six at most
@@ -160,22 +201,43 @@ few_bits c s =
     let few : run c ≤ 4 = run_after_le 0 (low_bits 4 c.before) (omega arith) in
     omega (arith, stuff_le (run c) s few, few)
 
-module _ (content check : List ℕ) where
-  abbrev pub both : List Bool
-  both = bits_of content ++ bits_of check
+module _ (f : Checked) where
+  abbrev pub body : List Bool
+  body = bits_of f.content.bytes.now
 
-  pub length_both : length both ≡ 8 * length content + 8 * length check
-  length_both = length-append (bits_of content) (bits_of check) ∙ omega (arith, length-bits_of content, length-bits_of check)
+  abbrev pub last : List Bool
+  last = low_bits f.content.bits f.content.last
 
-  module _ {out middle : List ℕ} {start body : BitWriter} (pb : Puts out start (bits_of content) middle body) (lm : length middle ≡ length out) where
-    pub content_put : Putting out start both middle body (bits_of check)
-    content_put = put_turn (bits_of content) (put_begin out start both) refl pb lm
+  abbrev pub tail : List Bool
+  tail = bits_of f.check.now
 
-    pub check_put : {filled : List ℕ} {tail : BitWriter} → Puts middle body (bits_of check) filled tail → length filled ≡ length middle → Puts out start both filled tail
-    check_put pt lf = puts_append (bits_of content) (bits_of check) pb lm pt lf
+  pub parts : checked f ≡ body ++ (last ++ tail)
+  parts = append_assoc body last tail
 
-  pub frame_le : 5 * length (enclose both) ≤ 48 * length content + 48 * length check + 80
-  frame_le = omega (arith, length-enclose both, stuff_le 0 both (omega arith), length_both)
+  pub length-checked : length (checked f) ≡ 8 * length f.content.bytes.now + f.content.bits + 8 * length f.check.now
+  length-checked =
+      length-append (body ++ last) tail
+      ∙ omega (arith, length-append body last, length-bits_of f.content.bytes.now, length-low_bits f.content.bits f.content.last, length-bits_of f.check.now)
+
+  -- counted one after the other
+  module _ {start c d r : BitCount} (cb : Counts start body c) (cl : Counts c last d) (ct : Counts d tail r) where
+    pub all_counted : Counts start (checked f) r
+    all_counted = counts_append (body ++ last) tail (counts_append body last cb cl) ct
+
+  -- put one after the other
+  module _ {out middle : List ℕ} {start w : BitWriter} (pb : Puts out start body middle w) (lm : length middle ≡ length out) where
+    pub body_put : Putting out start (checked f) middle w (last ++ tail)
+    body_put = put_turn body (put_begin out start (checked f)) parts pb lm
+
+    module _ {later : List ℕ} {v : BitWriter} (pl : Puts middle w last later v) (ll : length later ≡ length middle) where
+      pub last_put : Putting out start (checked f) later v tail
+      last_put = put_turn last body_put refl pl ll
+
+      pub all_put : {filled : List ℕ} {r : BitWriter} → Puts later v tail filled r → length filled ≡ length later → Puts out start (checked f) filled r
+      all_put pt lf = put_whole (put_turn tail last_put (sym (append-nil tail)) pt lf) refl
+
+  pub frame_le : 5 * length (enclose (checked f)) ≤ 48 * length f.content.bytes.now + 48 * length f.check.now + 122
+  frame_le = omega (arith, length-enclose (checked f), stuff_le 0 (checked f) (omega arith), length-checked, f.content.bits_few)
 
 -- ---- the bytes of the check carry its bits
 
@@ -185,10 +247,10 @@ bits_of-sent n r e = ap bits_of (e ∙ pack-low_bits n r) ∙ bits_of-little_end
 pub length-sent : (n r : ℕ) {bytes : List ℕ} → bytes ≡ pack (low_bits (8 * n) r) → length bytes ≡ n
 length-sent n r e = ap length e ∙ length-pack (low_bits (8 * n) r) ∙ omega (arith, length-low_bits (8 * n) r)
 
-frame_sent : (m : Parameters) (content : List ℕ) (n r : ℕ) {bytes : List ℕ} → low_bits (8 * n) r ≡ check_bits m (bits_of content)
-    → bytes ≡ pack (low_bits (8 * n) r) → enclose (bits_of content ++ bits_of bytes) ≡ frame_of m (bits_of content)
+frame_sent : (m : Parameters) (content : List Bool) (n r : ℕ) {bytes : List ℕ} → low_bits (8 * n) r ≡ check_bits m content
+    → bytes ≡ pack (low_bits (8 * n) r) → enclose (content ++ bits_of bytes) ≡ frame_of m content
 unfolding frame_of checked_bits
-frame_sent m content n r e f = ap (λ s. enclose (bits_of content ++ s)) (bits_of-sent n r f ∙ e)
+frame_sent m content n r e f = ap (λ s. enclose (content ++ s)) (bits_of-sent n r f ∙ e)
 
 -- ---- answers
 
@@ -205,18 +267,26 @@ module _ (s : List Bool) (out : List ℕ) where
       → Answers (frame bits) after (ask_room s (length out)) out
   room_enough h e = rw (le-leb (bytes_for (length s)) (length out) h) e
 
-module _ (m : Parameters) (content out : List ℕ) where
-  pub no_content : length content ≡ 0 → Answers (refused 21 0) out (write_frame m content (length out)) out
+module _ (m : Parameters) (claimed : ℕ) (lent out : List ℕ) where
+  pub not_lent : 8 * length lent < claimed → Answers (refused 66 0) out (write_frame m claimed lent (length out)) out
   unfolding write_frame write_output
-  no_content h = rw (lt-leb 1 (length content) (omega arith)) refl
+  not_lent h = rw (lt-leb claimed (8 * length lent) h) refl
 
-  pub too_long : 0 < length content → m.limit < length content → Answers (refused 22 0) out (write_frame m content (length out)) out
-  unfolding write_frame write_output
-  too_long h l = rw (le-leb 1 (length content) (omega arith), lt-leb (length content) m.limit l) refl
+  module _ (within : claimed ≤ 8 * length lent) where
+    pub no_content : claimed ≡ 0 → Answers (refused 21 0) out (write_frame m claimed lent (length out)) out
+    unfolding write_frame write_bits write_output
+    no_content h = rw (le-leb claimed (8 * length lent) within, told_length lent claimed within, lt-leb 1 claimed (omega arith)) refl
 
-  pub within_limit : (n r : ℕ) {bytes after : List ℕ} {a : Numbers} → 0 < length content → length content ≤ m.limit
-      → low_bits (8 * n) r ≡ check_bits m (bits_of content) → bytes ≡ pack (low_bits (8 * n) r)
-      → Answers a after (ask_room (enclose (bits_of content ++ bits_of bytes)) (length out)) out → Answers a after (write_frame m content (length out)) out
-  unfolding write_frame
-  within_limit n r h l e f k =
-      rw (le-leb 1 (length content) (omega arith), le-leb (length content) m.limit l) (rw (frame_sent m content n r e f) at k)
+    module _ (some : 0 < claimed) where
+      pub too_long : limit_bits m < claimed → Answers (refused 22 0) out (write_frame m claimed lent (length out)) out
+      unfolding write_frame write_bits write_output
+      too_long l =
+          rw (le-leb claimed (8 * length lent) within, told_length lent claimed within, le-leb 1 claimed some, lt-leb claimed (limit_bits m) l) refl
+
+      pub within_limit : (n r : ℕ) {content : List Bool} {bytes after : List ℕ} {a : Numbers} → claimed ≤ limit_bits m → content ≡ take claimed (bits_of lent)
+          → low_bits (8 * n) r ≡ check_bits m content → bytes ≡ pack (low_bits (8 * n) r)
+          → Answers a after (ask_room (enclose (content ++ bits_of bytes)) (length out)) out → Answers a after (write_frame m claimed lent (length out)) out
+      unfolding write_frame write_bits
+      within_limit n r l c e f k =
+          rw (le-leb claimed (8 * length lent) within, told_length lent claimed within, le-leb 1 claimed some, le-leb claimed (limit_bits m) l, ← c)
+          (rw (frame_sent m _ n r e f) at k)

@@ -5,14 +5,19 @@ use Rattle.bits.specs.Bytes.{low_bits, pack, bits_of}
 use Rattle.frame_writer.specs.declared.Position.{Position}
 use Rattle.frame_writer.specs.declared.BitCount.{BitCount}
 use Rattle.frame_writer.specs.declared.BitWriter.{BitWriter}
+use Rattle.frame_writer.specs.declared.Content.{Content}
 use Rattle.frame_writer.specs.declared.Checked.{Checked}
 use Rattle.frame.specs.Stuffing.{stuff, run_after}
 use Rattle.zero_insertion.specs.Insertion.{run_before}
 use Rattle.frame_writer.specs.Stepping.{at, pair, stepped}
 
--- the bits of content and check
+-- the bits of a content
+abbrev pub content_bits : Content → List Bool
+content_bits c = bits_of c.bytes.now ++ low_bits c.bits c.last
+
+-- of content and check
 abbrev pub checked : Checked → List Bool
-checked f = bits_of f.content.now ++ bits_of f.check.now
+checked f = content_bits f.content ++ bits_of f.check.now
 
 -- the bits before a position
 abbrev pub bits_before : Position → ℕ
@@ -23,9 +28,9 @@ pub record Opens (c : BitCount) : Type 0 where
   pub pair_is : pair c.at ≡ stepped 8 (at 0 0)
   pub before_is : c.before ≡ 0
 
--- behind a byte and the zeros in it, of which `before` are the last four bits
-pub record Follows (c : BitCount) (zeros before : ℕ) (r : BitCount) : Type 0 where
-  pub pair_is : pair r.at ≡ stepped (8 + zeros) (pair c.at)
+-- behind n bits more, inserted zeros among them, of which `before` are the last four
+pub record Follows (c : BitCount) (n before : ℕ) (r : BitCount) : Type 0 where
+  pub pair_is : pair r.at ≡ stepped n (pair c.at)
   pub before_is : r.before ≡ before
 
 -- the bits s counted with the zeros inserted: the pair is the one stepped by all of them

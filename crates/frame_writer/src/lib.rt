@@ -30,15 +30,25 @@ pub(crate) struct BitWriter {
     ghost held_small: { held < 2 ^ count.at.place },
 }
 
+// A content: its whole bytes, and the byte whose lowest bits, fewer than eight, are its last.
+#[derive(Clone, Copy)]
+pub(crate) struct Content<'a> {
+    pub bytes: &'a [u8],
+    pub last: u8,
+    pub bits: u32,
+    ghost bytes_small: { length bytes.now ≤ content_limit },
+    ghost bits_few: { bits < 8 },
+}
+
 // Content and check of a frame, within what any method has.
 #[derive(Clone, Copy)]
 pub(crate) struct Checked<'a> {
-    pub content: &'a [u8],
+    pub content: Content<'a>,
     pub check: &'a [u8],
-    ghost content_small: { length content.now ≤ content_limit },
     ghost check_small: { length check.now ≤ 4 },
 }
 
+mod check;
 mod count;
 mod pair;
 mod put;

@@ -39,6 +39,30 @@ impl Position {
         }
     }
 
+    // A few bits on: fewer than two bytes.
+    pub(crate) fn after_bits(self, n: u32) -> Position
+        requires { (n ≤ 9) × (self.index + 2 < 2 ^ 64) }
+        ensures { pair result ≡ stepped n (pair self) }
+    {
+        let place = self.place + n;
+        if place >= 16 {
+            return Position {
+                index: self.index + 2,
+                place: place - 16,
+            };
+        }
+        if place >= 8 {
+            return Position {
+                index: self.index + 1,
+                place: place - 8,
+            };
+        }
+        Position {
+            index: self.index,
+            place,
+        }
+    }
+
     // How many bits stand before it.
     pub(crate) fn bits(self) -> usize
         requires { 8 * self.index + 8 < 2 ^ 64 }

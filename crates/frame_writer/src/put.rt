@@ -9,7 +9,7 @@ ghost use Rattle.frame_writer.specs.Steps.{Opens, bits_before, stored, Puts};
 
 use crate::{BitCount, BitWriter, Position};
 use frame::FLAG;
-use zero_insertion::stuff_byte;
+use zero_insertion::{stuff_bits, stuff_byte};
 
 impl BitWriter {
     // Behind the opening flag, which is the first byte of the output.
@@ -43,6 +43,31 @@ impl BitWriter {
         BitWriter {
             count,
             held: held >> 16,
+        }
+    }
+
+    // Puts the lowest bits of a byte, fewer than eight, with the zeros that go into them.
+    pub(crate) fn put_bits(self, out: &mut [u8], byte: u8, bits: u32) -> BitWriter
+        requires { (bits < 8) × (bits_before self.count.at + length (stuff (run_before self.count.before) (low_bits bits byte)) ≤ 8 * length out.old) }
+        ensures { Puts out.old self (low_bits bits byte) out.new result }
+    {
+        let at = self.count.at;
+        let sent = stuff_bits(self.count.before, byte, bits);
+        let held = self.held | (sent.bits << at.place);
+        let count = self.count.after_bits(bits + sent.zeros, sent.before);
+        if count.at.index == at.index {
+            return BitWriter { count, held };
+        }
+        out[at.index] = (held & 255) as u8;
+        let next = at.index + 1;
+        let rest = held >> 8;
+        if count.at.index == next {
+            return BitWriter { count, held: rest };
+        }
+        out[next] = (rest & 255) as u8;
+        BitWriter {
+            count,
+            held: rest >> 8,
         }
     }
 

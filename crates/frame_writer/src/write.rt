@@ -1,4 +1,4 @@
-// Writing a frame: questions 21 to 23, then its bits.
+// Writing a frame: questions 66 and 21 to 23, then its bits.
 ghost use Rattle.std.specs.Prelude.{◌≡◌, ◌≤◌, length};
 ghost use Rattle.bits.specs.Bytes.{bytes_for};
 ghost use Rattle.bits.specs.Calls.{called};
@@ -7,11 +7,8 @@ ghost use Rattle.frame.specs.Write.{ask_room, written};
 ghost use Rattle.frame.specs.Answers.{of_written, after_writing, write_call};
 ghost use Rattle.frame_writer.specs.Steps.{checked};
 
-use crate::{BitWriter, Checked};
-use cyclic::Cyclic;
-use cyclic5::Cyclic5;
-use cyclic6::Cyclic6;
-use frame::{FLAG, FrameMethod, WriteRefusal, limit};
+use crate::{BitWriter, Checked, Content};
+use frame::{FLAG, FrameMethod, WriteRefusal, limit_bits};
 use registers::{sent16, sent32};
 
 impl Checked<'_> {
@@ -21,8 +18,9 @@ impl Checked<'_> {
         ensures { called (of_written (Ok result)) out.new ≡ after_writing (written (enclose (checked self.entry))) out.old }
     {
         out[0] = FLAG;
-        let body = BitWriter::open().put_bytes(&mut *out, self.content);
-        let tail = body.put_bytes(&mut *out, self.check);
+        let body = BitWriter::open().put_bytes(&mut *out, self.content.bytes);
+        let rest = body.put_bits(&mut *out, self.content.last, self.content.bits);
+        let tail = rest.put_bytes(&mut *out, self.check);
         tail.put_flag(&mut *out).bits()
     }
 
@@ -30,7 +28,8 @@ impl Checked<'_> {
     fn write(self, out: &mut [u8]) -> Result<usize, WriteRefusal>
         ensures { called (of_written result) out.new ≡ after_writing (ask_room (enclose (checked self.entry)) (length out.old)) out.old }
     {
-        let most = self.content.len() + (self.content.len() >> 2) + 16;
+        let bytes = self.content.bytes.len();
+        let most = bytes + (bytes >> 2) + 16;
         if most <= out.len() {
             return Ok(self.put(&mut *out));
         }
@@ -42,30 +41,36 @@ impl Checked<'_> {
     }
 }
 
-// Document 01, part 4: writes one frame. The number of its bits.
+// Document 01, part 4: writes one frame, whose content is the first `bits` bits of the bytes lent. The number of its bits.
 pub fn write_frame(
     method: FrameMethod,
-    content: &[u8],
+    bits: usize,
+    lent: &[u8],
     out: &mut [u8],
 ) -> Result<usize, WriteRefusal>
-    ensures { called (of_written result) out.new ≡ write_call method content.now out.old }
+    ensures { called (of_written result) out.new ≡ write_call method bits lent.now out.old }
 {
-    if content.is_empty() {
+    // 8 times the length may not fit.
+    if bits.div_ceil(8) > lent.len() {
+        return Err(WriteRefusal::BitsNotLent);
+    }
+    if bits == 0 {
         return Err(WriteRefusal::NoContent);
     }
-    if content.len() > limit(method) {
+    if bits > limit_bits(method) {
         return Err(WriteRefusal::TooLong);
     }
+    let content = Content::new(lent, bits);
     // The checks are arrays of two lengths. Each arm writes, since the borrow checker takes no slice, chosen here, of an array of one arm.
     match method {
         FrameMethod::Cyclic16 => Checked {
             content,
-            check: &sent16(Cyclic5::check_of(content)),
+            check: &sent16(content.check_16()),
         }
         .write(&mut *out),
         FrameMethod::Cyclic32 => Checked {
             content,
-            check: &sent32(Cyclic6::check_of(content)),
+            check: &sent32(content.check_32()),
         }
         .write(&mut *out),
     }

@@ -7,12 +7,13 @@ use Rattle.std.specs.Prelude.{Some, None}
 use Prim.Native.Nat.{ℕ, zero, suc, ◌+◌, ◌*◌, ◌-◌, ◌%◌, ◌^◌, ◌<◌, ◌≤◌}
 use native.Mathlib.Nat.{mod-lt, pow-suc, one-mul, add_comm, mod-eq_of_lt}
 use native.Mathlib.Omega.{arith}
-use lib.Bits.{bit_or}
+use lib.Bits.{bit_and, bit_or}
 use lib.Count.{count_leading_zeros, leading_unique}
 use lib.Dec.{eqb}
-use lib.Pow.{pow_pos, pow-lt, pow_mono}
+use lib.Pow.{pow_pos, pow-lt, pow_mono, low}
 use lib.ListN.{length, take, length-append, length-replicate}
 use lib.Seq.{take_at, take-append-le}
+use Rattle.std.proofs.lemmas.Nat.{and_mask}
 use Rattle.bits.specs.Strings.{zeros}
 use Rattle.bits.specs.Bytes.{low_bits, value}
 use Rattle.bits.proofs.Bytes.{length-low_bits, low_bits-mod, low_bits-zero, low_bits-value-zeros, low_bits_injective, value_lt, value-low_bits, value_snoc}
@@ -23,7 +24,8 @@ use Rattle.zero_removal.specs.declared.ByteRead.{ByteRead}
 use Rattle.zero_removal.specs.declared.MissingZero.{MissingZero}
 use Rattle.zero_removal.specs.Removal.{ones_before, unstuff_part, in_front, Lacks}
 use Rattle.zero_removal.specs.Reader.{pending_bits, whole_bits, part_of, ReadsByte}
-use Rattle.line_ends.specs.Last.{last_of, LastBits, LacksLast}
+use Rattle.line_ends.specs.declared.LastRead.{LastRead}
+use Rattle.line_ends.specs.Last.{Holds, last_of, LastBits, LacksLast}
 
 -- ---- zero removal with a mark behind the bits
 
@@ -114,6 +116,23 @@ module _ (word n : ℕ) (small : word < 2 ^ n) (s : List Bool) (j : ℕ) (e : lo
       sym (leading_unique 32 word (31 - l) (suc l) (omega (arith, mark_below))
       (omega (arith, word_is, value_lt s, pow-suc 2 l)) (omega (arith, word_is, pow-suc 2 l)))
 
+  -- as code finds it
+  abbrev bits : ℕ
+  bits = 31 - count_leading_zeros 32 word % 32
+
+  pub below_mark : n ≤ 32 → Holds s (record { bits = bits; held = bit_and word (1 * 2 ^ bits % 4294967296 - 1) })
+  below_mark h =
+      let l = length s in
+      let counted : bits ≡ l = omega (arith, mark_below, top_is h) in
+      let one : 1 * 2 ^ l % 4294967296 ≡ 2 ^ l =
+      ap (λ m. m % 4294967296) (one-mul (2 ^ l)) ∙ mod-eq_of_lt (pow-lt {i = l} {j = 32} (omega (arith, mark_below))) in
+      record {
+        counted = counted;
+        held_is =
+            ap (λ m. bit_and word (1 * 2 ^ m % 4294967296 - 1)) counted ∙ ap (λ m. bit_and word (m - 1)) one ∙ and_mask word l
+            ∙ ap (λ m. m % 2 ^ l) (word_is ∙ add_comm (value s) (2 ^ l) ∙ ap (λ m. m + value s) (sym (one-mul (2 ^ l)))) ∙ low 1 l (value_lt s);
+      }
+
 -- as code reads it: k modulo 8
 abbrev pub marked_code : ℕ → ℕ → ℕ
 marked_code byte k = byte % (1 * 2 ^ (k % 8) % 256) + 1 * 2 ^ (k % 8) % 256
@@ -164,70 +183,45 @@ module _ (r : LineReader) (byte k : ℕ) (h : k < 8) where
     abbrev s : List Bool
     s = mark_found.bits
 
-    pub last_part : x.byte ≡ None → LastBits line (record { bits = 31 - count_leading_zeros 32 x.next.held % 32; byte = None })
-    last_part w =
+    pub last_part : x.byte ≡ None → {y : LastRead}
+        → ((n : ℕ) (s : List Bool) (j : ℕ) → n ≤ 32 → x.next.held < 2 ^ n → low_bits n x.next.held ≡ s ++ (true ∷ zeros j) → Holds s y)
+        → LastBits line y
+    last_part w found =
         let f = mark_found in
         let fit = e.fits in
-        let q : low_bits x.next.pending x.next.held ≡ s ++ (true ∷ zeros f.behind) =
+        let p = x.next.pending in
+        let q : low_bits p x.next.held ≡ s ++ (true ∷ zeros f.behind) =
         ap (λ v. whole_bits v ++ pending_bits x.next) (sym w) ∙ f.with_mark in
-        let b = mark_below x.next.held x.next.pending fit.held_small s f.behind q in
-        let t = top_is x.next.held x.next.pending fit.held_small s f.behind q (omega (arith, fit.pending_small)) in
         record {
           bits = s;
           left = f.left;
-          counted = omega (arith, b, t, fit.pending_small);
-          below = omega (arith, b, fit.pending_small);
-          fewer = λ z. omega (arith, b, fit.pending_small);
-          first = λ b z. absurd (let z : ◌≡◌ {A = ℕ} 0 1 = cc in omega arith);
+          below = omega (arith, mark_below x.next.held p fit.held_small s f.behind q, fit.pending_small);
+          holds = found p s f.behind (omega (arith, fit.pending_small)) fit.held_small q;
         }
 
     module _ {b : ℕ} (small : b < 256) (w : x.byte ≡ Some b) where
       abbrev word : ℕ
       word = bit_or b (x.next.held * 256 % 4294967296)
 
-      abbrev bits : ℕ
-      bits = 31 - count_leading_zeros 32 word % 32
-
-      joins : low_bits 8 b ++ pending_bits x.next ≡ s ++ (true ∷ zeros mark_found.behind)
-      joins = ap (λ v. whole_bits v ++ pending_bits x.next) (sym w) ∙ mark_found.with_mark
-
-      counts : (bits ≡ length s) × (length s < 16)
-      counts =
+      pub last_whole : {y : LastRead}
+          → ((n : ℕ) (s : List Bool) (j : ℕ) → n ≤ 32 → word < 2 ^ n → low_bits n word ≡ s ++ (true ∷ zeros j) → Holds s y)
+          → LastBits line y
+      last_whole found =
           let f = mark_found in
           let fit = e.fits in
           let held = x.next.held in
           let p = x.next.pending in
           let both = join 8 b held in
           let is : word ≡ both = joined-or 8 b p held small fit.held_small (omega (arith, fit.pending_small)) in
-          let low : both < 2 ^ (8 + p) = subst (λ (n : ℕ). both < 2 ^ n) (add_comm p 8) (joined_small 8 b p held small fit.held_small) in
-          let g : low_bits (8 + p) both ≡ s ++ (true ∷ zeros f.behind) = sym (joined-bits 8 b p held small fit.held_small) ∙ joins in
-          let l = mark_below both (8 + p) low s f.behind g in
-          let top : count_leading_zeros 32 word ≡ 31 - length s =
-          ap (count_leading_zeros 32) is ∙ top_is both (8 + p) low s f.behind g (omega (arith, fit.pending_small)) in
-          (omega (arith, l, top, fit.pending_small), omega (arith, l, fit.pending_small))
-
-      pub last_fewer : bits < 8 → LastBits line (record { bits = bits; byte = None })
-      last_fewer n =
+          let low : word < 2 ^ (8 + p) =
+          subst (λ (m : ℕ). m < 2 ^ (8 + p)) (sym is) (subst (λ (n : ℕ). both < 2 ^ n) (add_comm p 8) (joined_small 8 b p held small fit.held_small)) in
+          let joins : low_bits 8 b ++ pending_bits x.next ≡ s ++ (true ∷ zeros f.behind) =
+          ap (λ v. whole_bits v ++ pending_bits x.next) (sym w) ∙ f.with_mark in
+          let g : low_bits (8 + p) word ≡ s ++ (true ∷ zeros f.behind) =
+          ap (low_bits (8 + p)) is ∙ sym (joined-bits 8 b p held small fit.held_small) ∙ joins in
           record {
             bits = s;
-            left = mark_found.left;
-            counted = counts.0;
-            below = counts.1;
-            fewer = λ z. omega (arith, counts.0);
-            first = λ b z. absurd (let z : ◌≡◌ {A = ℕ} 0 1 = cc in omega arith);
-          }
-
-      pub last_whole : 8 ≤ bits → LastBits line (record { bits = bits; byte = Some b })
-      last_whole n =
-          let m : 8 ≤ length s = omega (arith, counts.0) in
-          let v : value (take 8 s) ≡ b =
-          ap value (sym (take-append-le 8 s (true ∷ zeros mark_found.behind) m) ∙ ap (take 8) (sym joins) ∙ take_at (low_bits 8 b) (pending_bits x.next) 8 (length-low_bits 8 b))
-          ∙ value-low_bits 8 b ∙ mod-eq_of_lt small in
-          record {
-            bits = s;
-            left = mark_found.left;
-            counted = counts.0;
-            below = counts.1;
-            fewer = λ z. absurd (let z : ◌≡◌ {A = ℕ} 0 1 = cc in omega arith);
-            first = λ c z. let q : b ≡ c = cc in (m, v ∙ q);
+            left = f.left;
+            below = omega (arith, mark_below word (8 + p) low s f.behind g, fit.pending_small);
+            holds = found (8 + p) s f.behind (omega (arith, fit.pending_small)) low g;
           }

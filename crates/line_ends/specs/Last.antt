@@ -1,5 +1,5 @@
 -- The last bits of a line: what they give, the pending bits in front. Assumes nothing.
-use Rattle.std.specs.Prelude.{◌≡◌, ℕ, ◌<◌, ◌≤◌, Bool, List, length, take, Some, None, Result, Ok, Err}
+use Rattle.std.specs.Prelude.{◌≡◌, ℕ, ◌<◌, Bool, List, length, Result, Ok, Err}
 use Rattle.bits.specs.Bytes.{low_bits, value}
 use Rattle.frame.specs.Stuffing.{Unstuffed, clean, missing, unstuff}
 use Rattle.zero_removal.specs.declared.LineReader.{LineReader}
@@ -12,14 +12,17 @@ use Rattle.line_ends.specs.declared.LastRead.{LastRead}
 abbrev pub last_of : LineReader → ℕ → ℕ → Unstuffed
 last_of r byte k = in_front (pending_bits r) (unstuff (ones_before r.before) 0 (low_bits k byte))
 
--- bits that are left, and what tells of them
+-- how many bits there are, and the number that holds them
+pub record Holds (s : List Bool) (x : LastRead) : Type 0 where
+  pub counted : x.bits ≡ length s
+  pub held_is : x.held ≡ value s
+
+-- bits that are left, and what holds them
 pub record LastBits (u : Unstuffed) (x : LastRead) : Type 0 where
   pub bits : List Bool
   pub left : u ≡ clean bits
-  pub counted : x.bits ≡ length bits
   pub below : length bits < 16
-  pub fewer : x.byte ≡ None → length bits < 8
-  pub first : (b : ℕ) → x.byte ≡ Some b → (8 ≤ length bits) × (value (take 8 bits) ≡ b)
+  pub holds : Holds bits x
 
 -- the place where a zero is missing
 pub record LacksLast (u : Unstuffed) (m : MissingZero) : Type 0 where

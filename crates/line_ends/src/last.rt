@@ -1,10 +1,23 @@
 // The last bits of the line before the closing flag.
-ghost use Rattle.std.specs.Prelude.{◌<◌};
+ghost use Rattle.std.specs.Prelude.{◌≡◌, ℕ, ◌^◌, ◌<◌, ◌≤◌, Bool, true, List, ◌∷◌, ◌++◌};
+ghost use Rattle.bits.specs.Strings.{zeros};
+ghost use Rattle.bits.specs.Bytes.{low_bits};
 ghost use Rattle.zero_removal.specs.Reader.{ReaderFits};
-ghost use Rattle.line_ends.specs.Last.{ReadsLast};
+ghost use Rattle.line_ends.specs.Last.{Holds, ReadsLast};
 
 use crate::LastRead;
 use zero_removal::{LineReader, MissingZero, read_bits, unstuff_byte};
+
+// What is held below the highest one of a number, and how many bits that is.
+fn below_mark(marked: u32) -> LastRead
+    ensures { (n : ℕ) (s : List Bool) (j : ℕ) → n ≤ 32 → marked < 2 ^ n → low_bits n marked ≡ s ++ (true ∷ zeros j) → Holds s result }
+{
+    let bits = 31 - u32::leading_zeros(marked) % 32;
+    LastRead {
+        bits,
+        held: marked & ((1 << bits) - 1),
+    }
+}
 
 // The first k bits of a byte, where the line ends behind them. They are read with a one behind them as a mark, and zeros behind that:
 // the highest one of what is read tells how many bits there are.
@@ -17,17 +30,7 @@ pub fn read_last(r: LineReader, byte: u8, k: usize) -> Result<LastRead, MissingZ
     let read = read_bits(r, got);
     let held = read.next.held;
     let Some(whole) = read.byte else {
-        return Ok(LastRead {
-            bits: 31 - u32::leading_zeros(held) % 32,
-            byte: None,
-        });
+        return Ok(below_mark(held));
     };
-    let bits = 31 - u32::leading_zeros((whole as u32) | (held << 8)) % 32;
-    if bits < 8 {
-        return Ok(LastRead { bits, byte: None });
-    }
-    Ok(LastRead {
-        bits,
-        byte: Some(whole),
-    })
+    Ok(below_mark((whole as u32) | (held << 8)))
 }

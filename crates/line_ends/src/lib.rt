@@ -2,12 +2,11 @@
 // Every function takes every input; for a reader that fits `read_last` gives what the rule gives.
 #![tactic(auto)]
 
-// How many bits of content and check are left, the pending ones in front, and the byte that the first eight of them make, where there
-// are as many.
+// The bits of content and check that are left, the pending ones in front: how many, and the number that holds them.
 #[derive(Clone, Copy)]
 pub struct LastRead {
     pub bits: u32,
-    pub byte: Option<u8>,
+    pub held: u32,
 }
 
 mod flag;

@@ -9,4 +9,4 @@ after_sent-requires c =
     (omega (arith, k.few), k.before_small, c.requires)
 
 pub returns : goal.returns
-returns c = count_sent c.args.byte (c.stuff_byte-sent.ensures c.args.self.before_small) c.after_sent.ensures
+returns c = count_sent 8 c.args.byte (c.stuff_byte-sent.ensures c.args.self.before_small) c.after_sent.ensures
