@@ -37,7 +37,7 @@ distance-blocks table m p most two fits least A B t b room e few =
     let k = taken_passed table m p A room e in
     least A B t (omega (arith, checked-length table m p A k.framing, ap (λ (b : Parts). b.counted) k.parts))
 
-distance-frames : FramesAtLeast 4 4093 method5
+distance-frames : FramesAtLeast 4 32751 method5
 unfolding checked_bits
 distance-frames A B t content room e few =
     let k = frames.taken_passed method5 A room e in

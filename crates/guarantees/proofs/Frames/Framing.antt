@@ -39,7 +39,7 @@ apart : {n v : ℕ} {s : List Bool} → unframed n v ≡ found s → ⊥
 apart {n = n} {v = v} {s = s} e = let z : ◌≡◌ {A = ℕ} 0 1 = cc in omega arith
 
 module _ (m : Parameters) (s : List Bool) where
-  lengths : (u : List Bool) → ask_length m u ≡ found s → (u ≡ s) × (1 + width m ≤ length s) × (length s ≤ limit_bits m + width m)
+  pub lengths : (u : List Bool) → ask_length m u ≡ found s → (u ≡ s) × (1 + width m ≤ length s) × (length s ≤ limit_bits m + width m)
   lengths u e =
       let a = ask-passed (leb (1 + width m) (length u)) apart e in
       let b = ask-passed (leb (length u) (limit_bits m + width m)) apart a.1 in

@@ -1,19 +1,19 @@
 -- Reading a written frame gives back its content, and writing the content of a frame gives back its bits. Assumes nothing.
 use mathlib.Core.Path.{◌≡◌, sym, ap, ap₂, ◌∙◌}
-use Prim.Native.Nat.{ℕ, ◌+◌, ◌-◌, ◌*◌, ◌%◌, ◌≤◌}
+use Prim.Native.Nat.{ℕ, ◌+◌, ◌-◌, ◌*◌, ◌≤◌}
 use native.Mathlib.Omega.{arith}
 use mathlib.Core.Bool.{Bool}
-use mathlib.Core.List.{List, ◌++◌, append_assoc, append-nil}
+use mathlib.Core.List.{List, ◌++◌, append_assoc}
 use lib.Dec.{leb}
 use lib.ListN.{length, take, drop, length-append, take-append-drop}
 use lib.Seq.{take_at, drop_at, take-append-le, length-take-le}
-use borrow.Author.Tests.{leb-true, le-leb, eq-eqb}
+use borrow.Author.Tests.{leb-true, le-leb}
 use Rattle.bits.proofs.Tests.{ask-passed}
-use Rattle.bits.specs.Strings.{same, zeros}
+use Rattle.bits.specs.Strings.{same}
 use Rattle.bits.specs.Bytes.{bits_of, bytes_for, pack}
 use Rattle.bits.proofs.Strings.{same_self}
 use Rattle.bits.proofs.Bytes.{length-bits_of, bits_of-append}
-use Rattle.bits.proofs.Packing.{length-pack, bits_of-pack, take-bits_of-pack}
+use Rattle.bits.proofs.Packing.{length-pack, take-bits_of-pack}
 use Rattle.cyclic.specs.Check.{Parameters, check_bits, checked_bits}
 use Rattle.cyclic.specs.Laws.{OfWidth}
 use Rattle.cyclic.proofs.Checks.{length-check}
