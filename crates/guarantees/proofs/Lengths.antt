@@ -127,10 +127,6 @@ frame_claimed w m o claimed lent f room e =
     let k = written.was_written m claimed lent f room e in
     omega (arith, ap length k.bits, frame w m o (take claimed (bits_of lent)), k.length-content)
 
-frame_5 : (claimed : ℕ) (lent : List ℕ) (f : List Bool) (room : ℕ) → frames.write_frame method5 claimed lent room ≡ frames.written f
-    → length f ≤ claimed + 32 + (claimed + 16) / 5
-frame_5 claimed lent f room e = omega (arith, frame_claimed 16 method5 width_5 claimed lent f room e)
-
 -- by computation, as row 12
 met_by_ff : (room : ℕ) → 7 ≤ room
     → (f : List Bool) × (frames.write_frame method5 16 (0xFF ∷ 0xFF ∷ []) room ≡ frames.written f) × (length f ≡ 8 * 2 + 32 + (8 * 2 + 16) / 5)
@@ -193,8 +189,8 @@ lengths =
       met_by_dle_4 = λ t. met_by_dle t method.CyclicAlternative (check_length_lem method.CyclicAlternative);
       clear_line_met = clear_line_met;
       frame = frame;
-      frame_5 = frame_5;
+      frame_5 = λ claimed lent f room e. omega (arith, frame_claimed 16 method5 width_5 claimed lent f room e);
       frame_6 = λ claimed lent f room e. omega (arith, frame_claimed 32 method6 width_6 claimed lent f room e);
-      bytes_5 = λ content. frame_5 (8 * length content) content;
+      bytes_5 = λ content f room e. omega (arith, frame_claimed 16 method5 width_5 (8 * length content) content f room e);
       met_by_ff = met_by_ff;
     }

@@ -7,11 +7,12 @@ use mathlib.Core.Bool.{Bool, true, false, cond}
 use mathlib.Core.List.{List}
 use lib.Dec.{leb, eqb}
 use lib.ListN.{length, take, drop}
-use lib.Seq.{take_all, length-take-le}
+use lib.Seq.{take_all, take_at, length-take-le}
 use borrow.Author.Tests.{leb-true, leb-false, le-leb, eqb-true, eqb-false}
 use Rattle.bits.specs.Strings.{same}
-use Rattle.bits.specs.Bytes.{bits_of, bytes_for}
+use Rattle.bits.specs.Bytes.{bits_of, bytes_for, pack}
 use Rattle.bits.proofs.Bytes.{length-bits_of}
+use Rattle.bits.proofs.Packing.{length-pack, bits_of-pack}
 use Rattle.cyclic.specs.Check.{Parameters, check_bits, method5, method6}
 use Rattle.cyclic.proofs.Methods.{width_5, width_6}
 use Rattle.frame.specs.Stuffing.{Unstuffed, clean, missing, unstuff}
@@ -19,11 +20,12 @@ use Rattle.frame.specs.Frame.{width, limit_bits, flag, frame_of}
 use Rattle.frame.specs.Read as reads
 use Rattle.frame.specs.Write as writes
 use Rattle.guarantees.specs.Lines.{is_one_of}
-use Rattle.guarantees.specs.Frames.{refusals, AcceptsByNumber, number_of}
-use Rattle.guarantees.specs.WholeBytes.{write_of_bytes, ask_length_of_bytes, ask_zeros_of_bytes, framed_of_bytes, framing_of_bytes, read_bits_of_bytes, read_frame_of_bytes, Was34, TakenOrLater, KeepsReading, WholeBytes, SpareBits}
+use Rattle.guarantees.specs.Frames.{checked_in, checked_bits, refusals, AcceptsByNumber, number_of}
+use Rattle.guarantees.specs.WholeBytes.{write_of_bytes, ask_length_of_bytes, ask_zeros_of_bytes, framed_of_bytes, framing_of_bytes, read_bits_of_bytes, read_frame_of_bytes, Was34, TakenOrLater, KeepsReading, WholeBytes, ContentBits, AnyBits}
 use Rattle.guarantees.proofs.Frames.Numbers.{answer, accepts_by_number, lent_by_number}
-use Rattle.guarantees.proofs.Frames.Framing.{lengths}
+use Rattle.guarantees.proofs.Frames.Framing.{lengths, passed, accepted_found}
 use Rattle.guarantees.proofs.Frames.Taken.{taken_passed}
+use Rattle.guarantees.proofs.Frames.RoundTrip.{was_written}
 
 -- two tests that hold together
 leb-same : (a b c d : ℕ) → (a ≤ b → c ≤ d) → (c ≤ d → a ≤ b) → leb a b ≡ leb c d
@@ -49,12 +51,6 @@ same_writing m content room =
     (leb-same 1 (length c) 1 (length content) (λ h. omega (arith, n)) (λ h. omega (arith, n)))
     ∙ ap (λ t. writes.ask (leb 1 (length content)) 21 0 (writes.ask t 22 0 (writes.ask_room (frame_of m c) room)))
     (leb-same (length c) (limit_bits m) (length content) m.limit (λ h. omega (arith, n)) (λ h. omega (arith, n)))
-
-pub spare_bits : SpareBits
-unfolding writes.write_frame
-spare_bits m claimed x y room h k e =
-    ap (λ t. writes.ask t 66 0 (writes.write_bits m (take claimed (bits_of x)) room)) (le-leb _ _ h ∙ sym (le-leb _ _ k))
-    ∙ ap (λ c. writes.ask (leb claimed (8 * length y)) 66 0 (writes.write_bits m c room)) e
 
 -- ---- no answer is 34
 
@@ -208,4 +204,49 @@ whole_bytes =
       keeps_reading_6 = keeps_reading method6 (let w = width_6.generator.width in omega arith);
       never_34 = never_34;
       lent_never_34 = lent_never_34;
+    }
+
+-- ---- any number of bits
+
+content_bits : (m : Parameters) (most checked : ℕ) → limit_bits m ≤ most → limit_bits m + width m ≤ checked → ContentBits m most checked
+unfolding checked_bits
+content_bits m most checked few short =
+    record {
+      written = λ claimed lent frame room e. let k = was_written m claimed lent frame room e in (k.some, omega (arith, k.within));
+      taken =
+          λ frame content room e.
+          let t = taken_passed m frame room e in
+          let s = t.framing.checked in
+          let a = passed m s frame t.framing.is_found in
+          let n = length-take-le (length s - width m) s (omega arith) in
+          (omega (arith, a.content, n, ap length t.is_content), omega (arith, a.within, n, ap length t.is_content));
+      accepted =
+          λ frame acc.
+          let r = accepted_found m frame acc in
+          omega (arith, ap (λ w. length (checked_in w)) r.is_found, (passed m r.checked frame r.is_found).within);
+    }
+
+-- the limits of the methods
+limit_5 : limit_bits method5 ≡ 32768
+unfolding method5
+limit_5 = refl
+
+limit_6 : limit_bits method6 ≡ 524288
+unfolding method6
+limit_6 = refl
+
+pub any_bits : AnyBits
+unfolding writes.write_frame reads.read_output
+any_bits =
+    record {
+      bits_5 = content_bits method5 _ _ (omega (arith, limit_5)) (omega (arith, limit_5, width_5.generator.width));
+      bits_6 = content_bits method6 _ _ (omega (arith, limit_6)) (omega (arith, limit_6, width_6.generator.width));
+      spare_ignored =
+          λ m claimed x y room h k e.
+          ap (λ t. writes.ask t 66 0 (writes.write_bits m (take claimed (bits_of x)) room)) (le-leb _ _ h ∙ sym (le-leb _ _ k))
+          ∙ ap (λ c. writes.ask (leb claimed (8 * length y)) 66 0 (writes.write_bits m c room)) e;
+      spare_zero =
+          λ content out.
+          let n = bytes_for (length content) in
+          ap bits_of (take_at (pack content) (drop n out) n (length-pack content)) ∙ bits_of-pack content;
     }

@@ -1,15 +1,15 @@
--- Frames that end inside a byte (document 02, card 13): contents of whole bytes keep their frames, their answers and their framings,
--- 34 is the answer of no frame, and the spare bits of the last content byte change nothing. Assumes nothing.
-use Rattle.std.specs.Prelude.{◌≡◌, ℕ, ◌+◌, ◌-◌, ◌*◌, ◌%◌, ◌≤◌, Bool, true, cond, List, [], ◌∷◌, leb, eqb, length, take, drop}
-use Rattle.bits.specs.Strings.{same}
-use Rattle.bits.specs.Bytes.{bits_of}
+-- Frames that end inside a byte (document 02, card 13): contents of whole bytes keep their frames, answers and framings; 34 is the
+-- answer of no frame; contents have from 1 bit to the limit, and the spare bits of their last byte change nothing. Assumes nothing.
+use Rattle.std.specs.Prelude.{◌≡◌, ℕ, ◌+◌, ◌-◌, ◌*◌, ◌%◌, ◌≤◌, Bool, true, cond, List, [], ◌∷◌, ◌++◌, leb, eqb, length, take, drop}
+use Rattle.bits.specs.Strings.{same, zeros}
+use Rattle.bits.specs.Bytes.{bits_of, bytes_for}
 use Rattle.cyclic.specs.Check.{Parameters, method5, method6}
 use Rattle.frame.specs.Stuffing.{Unstuffed, clean, missing, unstuff}
 use Rattle.frame.specs.Frame.{width, flag, frame_of}
 use Rattle.frame.specs.Read as reads
 use Rattle.frame.specs.Write as writes
 use Rattle.guarantees.specs.Lines.{is_one_of}
-use Rattle.guarantees.specs.Frames.{number_of}
+use Rattle.guarantees.specs.Frames.{Accepted, checked_bits, number_of}
 
 -- ---- the rules before the card, of document 01
 
@@ -86,8 +86,25 @@ pub record WholeBytes : Type 0 where
   pub never_34 : (m : Parameters) (frame : List Bool) (room : ℕ) → number_of (reads.read_bits m frame room) ≡ 34 → ⊥
   pub lent_never_34 : (m : Parameters) (told : ℕ) (lent : List ℕ) (room : ℕ) → number_of (reads.read_frame m told lent room) ≡ 34 → ⊥
 
--- bits of the last content byte above the claimed ones, and bytes behind it, change nothing
-abbrev pub SpareBits : Type 0
-SpareBits =
-    (m : Parameters) (claimed : ℕ) (x y : List ℕ) (room : ℕ) → claimed ≤ 8 * length x → claimed ≤ 8 * length y
-    → take claimed (bits_of x) ≡ take claimed (bits_of y) → writes.write_frame m claimed x room ≡ writes.write_frame m claimed y room
+-- ---- any number of bits
+
+-- "21 and 35 require at least 1 bit; 22 and 36 become 32,768 bits for method 5, 524,288 for method 6": of a method with contents of at
+-- most so many bits, and frames of at most so many checked bits
+pub record ContentBits (m : Parameters) (most checked : ℕ) : Type 0 where
+  pub written : (claimed : ℕ) (lent : List ℕ) (frame : List Bool) (room : ℕ) → writes.write_frame m claimed lent room ≡ writes.written frame
+      → (1 ≤ claimed) × (claimed ≤ most)
+  pub taken : (frame content : List Bool) (room : ℕ) → reads.read_bits m frame room ≡ reads.taken content
+      → (1 ≤ length content) × (length content ≤ most)
+  pub accepted : (frame : List Bool) → Accepted m frame → length (checked_bits m frame) ≤ checked
+
+pub record AnyBits : Type 0 where
+  -- numbered from 0, the last checked bit is number 32,783, or 524,319: as far as whole bytes reach
+  pub bits_5 : ContentBits method5 32768 32784
+  pub bits_6 : ContentBits method6 524288 524320
+  -- bits of the last content byte above the claimed ones, and bytes behind it, change nothing
+  pub spare_ignored : (m : Parameters) (claimed : ℕ) (x y : List ℕ) (room : ℕ) → claimed ≤ 8 * length x → claimed ≤ 8 * length y
+      → take claimed (bits_of x) ≡ take claimed (bits_of y) → writes.write_frame m claimed x room ≡ writes.write_frame m claimed y room
+  -- "Reading leaves spare high bits of the last output byte zero"
+  pub spare_zero : (content : List Bool) (out : List ℕ)
+      → bits_of (take (bytes_for (length content)) (reads.read_output (reads.taken content) out))
+      ≡ content ++ zeros (8 * bytes_for (length content) - length content)
