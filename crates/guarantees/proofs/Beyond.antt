@@ -37,9 +37,9 @@ distance-blocks table m p most two fits least A B t b room e few =
     let k = taken_passed table m p A room e in
     least A B t (omega (arith, checked-length table m p A k.framing, ap (λ (b : Parts). b.counted) k.parts))
 
-distance-frames : FramesAtLeast 4 4093 method5
+distance-frames : (most : ℕ) → most + 16 < 32768 → FramesAtLeast 4 most method5
 unfolding checked_bits
-distance-frames A B t content room e few =
+distance-frames most fits A B t content room e few =
     let k = frames.taken_passed method5 A room e in
     let s = k.framing.checked in
     let all = ap (λ w. length (checked_in w)) k.framing.is_found in
@@ -53,5 +53,5 @@ beyond_the_owner =
       distance_16 = distance_16;
       distance_3 = λ t p. distance-blocks t method.Cyclic p _ (check_length_lem method.Cyclic) (omega arith) (distance_16 (method_3 t p) tt);
       distance_4 = λ t p. distance-blocks t method.CyclicAlternative p _ (check_length_lem method.CyclicAlternative) (omega arith) (distance_16 (method_4 t p) tt);
-      distance_5 = distance-frames;
+      distance_5 = distance-frames _ (omega arith);
     }

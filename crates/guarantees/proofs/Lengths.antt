@@ -6,11 +6,10 @@ use native.Mathlib.Omega.{arith}
 use mathlib.Core.Bool.{Bool, true, false, cond, xor, ◌||◌}
 use mathlib.Core.List.{List, [], ◌∷◌, ◌++◌, map}
 use lib.Dec.{eqb}
-use lib.ListN.{length, replicate, length-append, length-map, length-replicate}
+use lib.ListN.{length, take, replicate, length-append, length-map, length-replicate}
 use borrow.Author.Tests.{eqb-true, eqb-false, le-leb}
 use Rattle.bits.specs.Bytes.{low_bits, bits_of, pack}
 use Rattle.bits.specs.Differences.{Each}
-use Rattle.bits.proofs.Bytes.{length-bits_of}
 use Rattle.division.specs.Division.{divide, remainder}
 use Rattle.division.specs.Generators.{ccitt16}
 use Rattle.cyclic.specs.Check.{Parameters, formula, check_bits, checked_bits, method5, method6}
@@ -121,16 +120,17 @@ frame w m o content =
     let n : length s ≡ length content + w = length-append content (check_bits m content) ∙ ap (λ k. length content + k) c in
     omega (arith, written.length_enclosed s, stuff_short 0 s (omega arith))
 
--- of whole bytes
-frame_bytes : (w : ℕ) (m : Parameters) → OfWidth w m → (content : List ℕ) (f : List Bool) (room : ℕ) → frames.write_frame m content room ≡ frames.written f
-    → length f ≤ longest_frame (8 * length content + w)
-frame_bytes w m o content f room e =
-    omega (arith, ap length (written.was_written m content f room e).bits, frame w m o (bits_of content), length-bits_of content)
+-- by the claimed bits
+frame_claimed : (w : ℕ) (m : Parameters) → OfWidth w m → (claimed : ℕ) (lent : List ℕ) (f : List Bool) (room : ℕ)
+    → frames.write_frame m claimed lent room ≡ frames.written f → length f ≤ longest_frame (claimed + w)
+frame_claimed w m o claimed lent f room e =
+    let k = written.was_written m claimed lent f room e in
+    omega (arith, ap length k.bits, frame w m o (take claimed (bits_of lent)), k.length-content)
 
 -- by computation, as row 12
 met_by_ff : (room : ℕ) → 7 ≤ room
-    → (f : List Bool) × (frames.write_frame method5 (0xFF ∷ 0xFF ∷ []) room ≡ frames.written f) × (length f ≡ 8 * 2 + 32 + (8 * 2 + 16) / 5)
-unfolding low_bits bits_of divide remainder ccitt16 formula check_bits checked_bits method5 is_fifth run_on stuff flag enclose frame_of frames.write_frame xor
+    → (f : List Bool) × (frames.write_frame method5 16 (0xFF ∷ 0xFF ∷ []) room ≡ frames.written f) × (length f ≡ 8 * 2 + 32 + (8 * 2 + 16) / 5)
+unfolding low_bits bits_of divide remainder ccitt16 formula check_bits checked_bits method5 is_fifth run_on stuff flag enclose frame_of frames.write_frame frames.write_bits xor
 met_by_ff room h =
     let f = frame_of method5 (bits_of (0xFF ∷ 0xFF ∷ [])) in
     (f, ap (λ x. frames.ask x 23 7 (frames.written f)) (le-leb 7 room h), refl)
@@ -189,7 +189,8 @@ lengths =
       met_by_dle_4 = λ t. met_by_dle t method.CyclicAlternative (check_length_lem method.CyclicAlternative);
       clear_line_met = clear_line_met;
       frame = frame;
-      frame_5 = λ content f room e. omega (arith, frame_bytes 16 method5 width_5 content f room e);
-      frame_6 = λ content f room e. omega (arith, frame_bytes 32 method6 width_6 content f room e);
+      frame_5 = λ claimed lent f room e. omega (arith, frame_claimed 16 method5 width_5 claimed lent f room e);
+      frame_6 = λ claimed lent f room e. omega (arith, frame_claimed 32 method6 width_6 claimed lent f room e);
+      bytes_5 = λ content f room e. omega (arith, frame_claimed 16 method5 width_5 (8 * length content) content f room e);
       met_by_ff = met_by_ff;
     }

@@ -11,3 +11,4 @@ pub mod Rows
 pub mod Fill
 pub mod Codes
 pub mod Lengths
+pub mod WholeBytes

@@ -1,5 +1,4 @@
 -- The owner's second property holds. Assumes nothing.
-use mathlib.Core.Path.{refl}
 use Rattle.cyclic.specs.Check.{method5, method6}
 use Rattle.cyclic.proofs.Methods.{width_5, width_6}
 use Rattle.guarantees.specs.Second.{SecondProperty}
@@ -17,8 +16,8 @@ second_property =
       accepted_is_taken = accepted_is_taken;
       accepted_is_taken_5 = frames.accepted_is_taken method5;
       accepted_is_taken_6 = frames.accepted_is_taken method6;
-      frame_reads_back_5 = frame_reads_back method5 16 width_5 refl;
-      frame_reads_back_6 = frame_reads_back method6 32 width_6 refl;
-      frame_writes_back_5 = frame_writes_back method5 16 width_5 refl;
-      frame_writes_back_6 = frame_writes_back method6 32 width_6 refl;
+      frame_reads_back_5 = frame_reads_back method5 16 width_5;
+      frame_reads_back_6 = frame_reads_back method6 32 width_6;
+      frame_writes_back_5 = frame_writes_back method5 16 width_5;
+      frame_writes_back_6 = frame_writes_back method6 32 width_6;
     }

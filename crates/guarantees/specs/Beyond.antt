@@ -1,6 +1,6 @@
 -- Beyond the owner's sentences: under a 16-bit check two bits pass at 32,767 apart and nowhere else, and their number is never odd,
 -- so that shorter lines differ in at least four bits. Assumes nothing.
-use Rattle.std.specs.Prelude.{◌≡◌, ℕ, ◌*◌, ◌≤◌, ◌<◌, Bool, List, length}
+use Rattle.std.specs.Prelude.{◌≡◌, ℕ, ◌≤◌, ◌<◌, Bool, List, length}
 use Rattle.cyclic.specs.Check.{Parameters, method5}
 use Rattle.block.specs.declared.Method.{Method}
 use Rattle.block.specs.declared.Method.TheVariants as method
@@ -23,11 +23,11 @@ BlocksAtLeast n most t m p =
     (A B : List ℕ) → TwoAccepted (blocks t m p) A B → (b : Parts) (room : ℕ) → read_block t m p A room ≡ taken b → b.counted ≤ most
     → n ≤ distance (blocks t m p) A B
 
--- frames, by the bytes of the content with which reading takes A
+-- frames, by the bits of the content with which reading takes A
 abbrev pub FramesAtLeast : ℕ → ℕ → Parameters → Type 0
 FramesAtLeast n most m =
     (A B : List Bool) → TwoAccepted (frames m) A B → (content : List Bool) (room : ℕ)
-    → frame-reading.read_bits m A room ≡ frame-reading.taken content → length content ≤ 8 * most → n ≤ distance (frames m) A B
+    → frame-reading.read_bits m A room ≡ frame-reading.taken content → length content ≤ most → n ≤ distance (frames m) A B
 
 pub record BeyondTheOwner : Type 0 where
   -- fewer than 32,768 checked bits
@@ -35,4 +35,5 @@ pub record BeyondTheOwner : Type 0 where
   -- so up to 4,093 bytes, which are 32,760 checked bits
   pub distance_3 : (t : CodeTable) (p : Parity) → BlocksAtLeast 4 4093 t method.Cyclic p
   pub distance_4 : (t : CodeTable) (p : Parity) → BlocksAtLeast 4 4093 t method.CyclicAlternative p
-  pub distance_5 : FramesAtLeast 4 4093 method5
+  -- and a content of up to 32,751 bits, with its check of 16
+  pub distance_5 : FramesAtLeast 4 32751 method5

@@ -22,7 +22,7 @@ number_of (refusal number value) = number
 
 -- the refusals of a frame that is not accepted, in the order asked
 abbrev pub refusals : List ℕ
-refusals = 31 ∷ 32 ∷ 33 ∷ 34 ∷ 35 ∷ 36 ∷ 37 ∷ []
+refusals = 31 ∷ 32 ∷ 33 ∷ 35 ∷ 36 ∷ 37 ∷ []
 
 -- accepted means none of them
 abbrev pub AcceptsByNumber : ReadAnswer → Type 0

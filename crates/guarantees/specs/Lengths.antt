@@ -62,11 +62,16 @@ pub record Lengths : Type 0 where
       → (line : List ℕ) × (blocks.write_block t Cyclic p shape.ClearText e [] (replicate n t.DLE) room ≡ blocks.written line) × (length line ≡ 2 * n + 6)
   -- over the width: a content of some bits and a check of w
   pub frame : (w : ℕ) (m : Parameters) → OfWidth w m → (content : List Bool) → length (frame_of m content) ≤ longest_frame (length content + w)
-  -- "A frame of method 5 with n content bytes has at most 8n + 32 + (8n + 16) divided by 5, rounded down, bits"
-  pub frame_5 : (content : List ℕ) (frame : List Bool) (room : ℕ) → frames.write_frame method5 content room ≡ frames.written frame
+  -- so of what `write_frame` answers, by the claimed bits (card 13)
+  pub frame_5 : (claimed : ℕ) (lent : List ℕ) (frame : List Bool) (room : ℕ) → frames.write_frame method5 claimed lent room ≡ frames.written frame
+      → length frame ≤ claimed + 32 + (claimed + 16) / 5
+  pub frame_6 : (claimed : ℕ) (lent : List ℕ) (frame : List Bool) (room : ℕ) → frames.write_frame method6 claimed lent room ≡ frames.written frame
+      → length frame ≤ claimed + 48 + (claimed + 32) / 5
+  -- "A frame of method 5 with n content bytes has at most 8n + 32 + (8n + 16) divided by 5, rounded down, bits": all bits of n bytes
+  -- are claimed
+  pub bytes_5 : (content : List ℕ) (frame : List Bool) (room : ℕ)
+      → frames.write_frame method5 (8 * length content) content room ≡ frames.written frame
       → length frame ≤ 8 * length content + 32 + (8 * length content + 16) / 5
-  pub frame_6 : (content : List ℕ) (frame : List Bool) (room : ℕ) → frames.write_frame method6 content room ≡ frames.written frame
-      → length frame ≤ 8 * length content + 48 + (8 * length content + 32) / 5
   -- "FF FF meets it", in every output that holds its 7 bytes
   pub met_by_ff : (room : ℕ) → 7 ≤ room
-      → (frame : List Bool) × (frames.write_frame method5 (0xFF ∷ 0xFF ∷ []) room ≡ frames.written frame) × (length frame ≡ 8 * 2 + 32 + (8 * 2 + 16) / 5)
+      → (frame : List Bool) × (frames.write_frame method5 16 (0xFF ∷ 0xFF ∷ []) room ≡ frames.written frame) × (length frame ≡ 8 * 2 + 32 + (8 * 2 + 16) / 5)

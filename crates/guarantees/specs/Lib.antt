@@ -10,3 +10,4 @@ pub mod Second
 pub mod Rows
 pub mod Codes
 pub mod Lengths
+pub mod WholeBytes

@@ -20,13 +20,13 @@ use Rattle.block.specs.Read.{Framing, none, framing, framing_of, ReadAnswer, tak
 use Rattle.frame.specs.Read.{Framed, found, unframed, framed, check_in}
 use Rattle.frame.specs.Write as frames
 
--- what is put to a rule: a line to read, in KOI-7 or in DKOI; a line to read and to compare with row 1, both in KOI-7; a content to
--- write as a frame; n, w, c and the numbers received in turn
+-- what is put to a rule: a line to read, in KOI-7 or in DKOI; a line to read and to compare with row 1, both in KOI-7; the claimed
+-- bits and the bytes lent to write a frame of; n, w, c and the numbers received in turn
 pub data Row : Type 0 where
   read : Method → Parity → List ℕ → Row
   read_dkoi : Method → Parity → List ℕ → Row
   compare : Method → Parity → List ℕ → Row
-  write : Parameters → List ℕ → Row
+  write : Parameters → ℕ → List ℕ → Row
   receive : ℕ → ℕ → ℕ → List ℕ → Row
 
 -- what it answers: to a comparison also the number of differing bits and whether the framings are one; of a written frame the
@@ -73,7 +73,7 @@ abbrev pub result_of : Row → Result
 result_of (read m p line) = block (read_block koi7 m p line room)
 result_of (read_dkoi m p line) = block (read_block dkoi m p line room)
 result_of (compare m p line) = compared (read_block koi7 m p line room) (length (differing_bits row1 line)) (same_framing (framing_of koi7 m p row1) (framing_of koi7 m p line))
-result_of (write m content) = frame_result m (frames.write_frame m content room)
+result_of (write m claimed lent) = frame_result m (frames.write_frame m claimed lent room)
 result_of (receive n w c bs) = received (map (λ (o : Outcome). o.verdict) (history n w c bs))
 
 -- ---- the table
@@ -104,8 +104,16 @@ rows =
     ∷ read_dkoi Cyclic Even (0x02 ∷ 0x16 ∷ 0x17 ∷ 0x41 ∷ 0x03 ∷ 0x50 ∷ 0x10 ∷ [])
     ∷ read_dkoi Matrix Even row1
     -- 11 and 12
-    ∷ write method5 (0xFF ∷ [])
-    ∷ write method5 (0xFF ∷ 0xFF ∷ [])
+    ∷ write method5 8 (0xFF ∷ [])
+    ∷ write method5 16 (0xFF ∷ 0xFF ∷ [])
+    -- contents that end inside a byte (document 02, card 13): 1, 7 and 9 bits; 9 bits with the spare bits of the last byte set; a bit
+    -- claimed of no byte, and no bit
+    ∷ write method5 1 (0x00 ∷ [])
+    ∷ write method5 7 (0x7F ∷ [])
+    ∷ write method5 9 (0xFF ∷ 0x01 ∷ [])
+    ∷ write method5 9 (0xFF ∷ 0xFF ∷ [])
+    ∷ write method5 1 []
+    ∷ write method5 0 []
     -- 14 with w = 2 (document 02, card 2), and with w = 4, where it is as document 01 has it
     ∷ receive 3 2 2 (7 ∷ 3 ∷ [])
     ∷ receive 3 4 2 (7 ∷ 3 ∷ [])
@@ -142,6 +150,13 @@ results =
     -- 11 and 12
     ∷ frame (0x00 ∷ 0xFF ∷ []) 42
     ∷ frame (0xFF ∷ 0xFF ∷ []) 54
+    -- inside a byte
+    ∷ frame (0x08 ∷ 0x04 ∷ []) 33
+    ∷ frame (0x00 ∷ 0xFE ∷ []) 41
+    ∷ frame (0x80 ∷ 0xFF ∷ []) 43
+    ∷ frame (0x80 ∷ 0xFF ∷ []) 43
+    ∷ refused 66 0
+    ∷ refused 21 0
     -- 14 with w = 2, and with w = 4
     ∷ received (lost ∷ lost ∷ [])
     ∷ received (repeat ∷ lost ∷ [])

@@ -52,18 +52,19 @@ AcceptedFrameIsTaken m =
     (frame : List Bool) → frame-lines.Accepted m frame
     → (content : List Bool) × ((room : ℕ) → bytes_for (length content) ≤ room → FrameTaken m frame content room)
 
--- a written frame is read from the bytes that hold it, whatever stands behind them
+-- a written frame is read from the bytes that hold it, whatever stands behind them: its content is the claimed number of bits of the
+-- bytes lent to writing (document 02, card 13: any number of bits)
 abbrev pub FrameReadsBack : Parameters → Type 0
 FrameReadsBack m =
-    (content : List ℕ) (frame : List Bool) (room space : ℕ) (behind : List ℕ) → frame-writing.write_frame m content room ≡ frame-writing.written frame
-    → length content ≤ space
-    → frame-reading.read_frame m (length frame) (pack frame ++ behind) space ≡ frame-reading.taken (bits_of content)
+    (claimed : ℕ) (lent : List ℕ) (frame : List Bool) (room space : ℕ) (behind : List ℕ)
+    → frame-writing.write_frame m claimed lent room ≡ frame-writing.written frame → bytes_for claimed ≤ space
+    → frame-reading.read_frame m (length frame) (pack frame ++ behind) space ≡ frame-reading.taken (take claimed (bits_of lent))
 
--- and writing gives the told bits back
+-- and writing the content's bits, out of the bytes that hold them, gives the told bits back
 abbrev pub FrameWritesBack : Parameters → Type 0
 FrameWritesBack m =
     (frame content : List Bool) (room space : ℕ) → frame-reading.read_bits m frame room ≡ frame-reading.taken content → length (pack frame) ≤ space
-    → frame-writing.write_frame m (pack content) space ≡ frame-writing.written frame
+    → frame-writing.write_frame m (length content) (pack content) space ≡ frame-writing.written frame
 
 pub record SecondProperty : Type 0 where
   pub written_reads_back : WrittenReadsBack

@@ -41,7 +41,8 @@ Has16Bits (method_7 t p) = ⊥
 -- "Take every two unequal lines A and B, both accepted, with one method, one length, one framing and, in methods 1 and 2, one
 -- parity setting."
 pub record ThirdProperty : Type 0 where
-  -- accepted: the number is none of 58, 11 to 15, 52, 53, 17, 18 and 54, or 31 to 37, and the line has a framing
+  -- accepted: the number is none of 58, 11 to 15, 52, 53, 17, 18 and 54, 31 to 33 or 35 to 37, and the line has a
+  -- framing
   pub accepted_blocks : (t : CodeTable) (m : Method) (p : Parity) (line : List ℕ) (room : ℕ) → block-lines.AcceptsByNumber (read_block t m p line room)
   pub accepted_frames : (m : Parameters) (frame : List Bool) (room : ℕ) → frame-lines.AcceptsByNumber (read_bits m frame room)
   pub accepted_lent : (m : Parameters) (told : ℕ) (lent : List ℕ) (room : ℕ) → frame-lines.AcceptsByNumber (read_frame m told lent room)

@@ -2,7 +2,7 @@
 use mathlib.Core.Path.{◌≡◌, refl, ap, ◌∙◌}
 use Prim.Native.Nat.{ℕ, suc, ◌<◌}
 use native.Mathlib.Omega.{arith}
-use mathlib.Core.Bool.{Bool, xor}
+use mathlib.Core.Bool.{Bool, true, false, xor}
 use mathlib.Core.List.{List, [], ◌∷◌, ◌++◌}
 use lib.ListN.{length, replicate}
 use Rattle.bits.specs.Strings.{weight}
@@ -36,7 +36,7 @@ use Rattle.guarantees.specs.Lines.{Lines, TwoAccepted, distance, differing_check
 use Rattle.guarantees.specs.Blocks.{Accepted, checked_bits, blocks}
 use Rattle.guarantees.specs.Frames as frame-lines
 use Rattle.guarantees.specs.Third.{method_1, method_2, method_3, method_4, method_5, method_6, method_7, lines_of}
-use Rattle.witness.specs.Sharp.{DifferInJust, DifferInBurst, DifferInColumns, SharpBounds}
+use Rattle.witness.specs.Sharp.{DifferInJust, DifferInBurst, DifferFromEndToEnd, DifferInColumns, SharpBounds}
 use Rattle.guarantees.proofs.Blocks.Framing.{CheckRight, accepted_right}
 use Rattle.guarantees.proofs.Frames.Framing as frame-framing
 use Rattle.guarantees.proofs.Third.{block_has_framing, frame_has_framing, third_property}
@@ -220,40 +220,65 @@ burst_4 Dkoi p =
 -- ---- frames, of contents that differ by the generator and so have one check
 
 module _ (m : Parameters) where
-  abbrev sent_frame : List ℕ → List Bool
-  sent_frame content = frame_of m (bits_of content)
-
-  abbrev IsFrame : List ℕ → Type 0
+  abbrev IsFrame : List Bool → Type 0
   IsFrame content =
-      (frame-reading.framed m (sent_frame content) ≡ frame-reading.found (cyclic.checked_bits m (bits_of content)))
-      × frame-framing.CheckRight m (cyclic.checked_bits m (bits_of content))
+      (frame-reading.framed m (frame_of m content) ≡ frame-reading.found (cyclic.checked_bits m content))
+      × frame-framing.CheckRight m (cyclic.checked_bits m content)
 
-  frame_accepted : (content : List ℕ) → IsFrame content → frame-lines.Accepted m (sent_frame content)
+  frame_accepted : (content : List Bool) → IsFrame content → frame-lines.Accepted m (frame_of m content)
   frame_accepted content (e, right) =
-      (frame-framing.accepted_right m (sent_frame content) (record { checked = cyclic.checked_bits m (bits_of content); is_found = e })).1 right
+      (frame-framing.accepted_right m (frame_of m content) (record { checked = cyclic.checked_bits m content; is_found = e })).1 right
 
-  frame_pair : (C D : List ℕ) → length (sent_frame C) ≡ length (sent_frame D)
-      → frame-reading.framing_of m (sent_frame C) ≡ frame-reading.framing_of m (sent_frame D) → IsFrame C → IsFrame D
-      → {k : ℕ} → distance (frame-lines.frames m) (sent_frame C) (sent_frame D) ≡ suc k
-      → TwoAccepted (frame-lines.frames m) (sent_frame C) (sent_frame D)
-  frame_pair C D size one c d =
-      two_accepted (frame-lines.frames m) (frame_has_framing m) (sent_frame C) (sent_frame D) (tt, tt) size one
-      (frame_accepted C c, frame_accepted D d)
+  frame_pair : (c d : List Bool) → length (frame_of m c) ≡ length (frame_of m d)
+      → frame-reading.framing_of m (frame_of m c) ≡ frame-reading.framing_of m (frame_of m d) → IsFrame c → IsFrame d
+      → {k : ℕ} → distance (frame-lines.frames m) (frame_of m c) (frame_of m d) ≡ suc k
+      → TwoAccepted (frame-lines.frames m) (frame_of m c) (frame_of m d)
+  frame_pair c d size one a b =
+      two_accepted (frame-lines.frames m) (frame_has_framing m) (frame_of m c) (frame_of m d) (tt, tt) size one
+      (frame_accepted c a, frame_accepted d b)
+
+-- where the generators have their terms
+abbrev terms_5 : List ℕ
+terms_5 = 0 ∷ 4 ∷ 11 ∷ 16 ∷ []
+
+abbrev terms_6 : List ℕ
+terms_6 = 0 ∷ 6 ∷ 9 ∷ 10 ∷ 16 ∷ 20 ∷ 21 ∷ 22 ∷ 24 ∷ 25 ∷ 27 ∷ 28 ∷ 30 ∷ 31 ∷ 32 ∷ []
 
 burst_5 : DifferInBurst 17 (lines_of method_5)
 unfolding low_bits bits_of check_bits cyclic.checked_bits formula method5 divide remainder ccitt16 is_fifth run_on stuff unstuff behind_five flag enclose frame_of frame-reading.framed frame-reading.framing_of frame-lines.checked_bits xor
 burst_5 =
     in_burst (third_property.burst_16 method_5 tt)
-    (frame_pair method5 (0x79 ∷ 0x42 ∷ 0xBD ∷ []) (0x68 ∷ 0x4A ∷ 0xBC ∷ []) refl refl (refl, refl) (refl, refl) refl)
-    {ns = 0 ∷ 4 ∷ 11 ∷ 16 ∷ []} refl (omega arith)
+    (frame_pair method5 (bits_of (0x79 ∷ 0x42 ∷ 0xBD ∷ [])) (bits_of (0x68 ∷ 0x4A ∷ 0xBC ∷ [])) refl refl (refl, refl) (refl, refl) refl)
+    {ns = terms_5} refl (omega arith)
 
 burst_6 : DifferInBurst 33 (lines_of method_6)
 unfolding low_bits bits_of check_bits cyclic.checked_bits formula method6 divide remainder ieee32 is_fifth run_on stuff unstuff behind_five flag enclose frame_of frame-reading.framed frame-reading.framing_of frame-lines.checked_bits xor
 burst_6 =
     in_burst third_property.burst_32
-    (frame_pair method6 (0x9A ∷ 0xD7 ∷ 0xC5 ∷ 0xB3 ∷ 0xD0 ∷ []) (0xDB ∷ 0xD1 ∷ 0xB4 ∷ 0x68 ∷ 0xD1 ∷ [])
+    (frame_pair method6 (bits_of (0x9A ∷ 0xD7 ∷ 0xC5 ∷ 0xB3 ∷ 0xD0 ∷ [])) (bits_of (0xDB ∷ 0xD1 ∷ 0xB4 ∷ 0x68 ∷ 0xD1 ∷ []))
     refl refl (refl, refl) (refl, refl) refl)
-    {ns = 0 ∷ 6 ∷ 9 ∷ 10 ∷ 16 ∷ 20 ∷ 21 ∷ 22 ∷ 24 ∷ 25 ∷ 27 ∷ 28 ∷ 30 ∷ 31 ∷ 32 ∷ []} refl (omega arith)
+    {ns = terms_6} refl (omega arith)
+
+-- one content bit, whose change changes the check by the generator's other terms
+one_bit_5 : DifferFromEndToEnd 17 (lines_of method_5)
+unfolding low_bits bits_of check_bits cyclic.checked_bits formula method5 divide remainder ccitt16 is_fifth run_on stuff unstuff behind_five flag enclose frame_of frame-reading.framed frame-reading.framing_of frame-lines.checked_bits xor in_burst
+one_bit_5 =
+    record {
+      in_burst =
+          in_burst (third_property.burst_16 method_5 tt)
+          (frame_pair method5 (false ∷ []) (true ∷ []) refl refl (refl, refl) (refl, refl) refl) {ns = terms_5} refl (omega arith);
+      checked = refl;
+    }
+
+one_bit_6 : DifferFromEndToEnd 33 (lines_of method_6)
+unfolding low_bits bits_of check_bits cyclic.checked_bits formula method6 divide remainder ieee32 is_fifth run_on stuff unstuff behind_five flag enclose frame_of frame-reading.framed frame-reading.framing_of frame-lines.checked_bits xor in_burst
+one_bit_6 =
+    record {
+      in_burst =
+          in_burst third_property.burst_32
+          (frame_pair method6 (false ∷ []) (true ∷ []) refl refl (refl, refl) (refl, refl) refl) {ns = terms_6} refl (omega arith);
+      checked = refl;
+    }
 
 pub sharp_bounds : SharpBounds
 sharp_bounds =
@@ -265,6 +290,8 @@ sharp_bounds =
       burst_4 = burst_4;
       burst_5 = burst_5;
       burst_32 = burst_6;
+      one_bit_5 = one_bit_5;
+      one_bit_32 = one_bit_6;
       four_diagonal = eight_columns;
       six_diagonal = three_columns;
     }

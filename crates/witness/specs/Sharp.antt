@@ -1,6 +1,6 @@
 -- The bounds of the third property are met: accepted lines that differ in just the least number of bits, and bursts one bit longer
 -- than those that never occur. Assumes nothing.
-use Rattle.std.specs.Prelude.{◌≡◌, ℕ, ◌<◌, List, [], ◌∷◌}
+use Rattle.std.specs.Prelude.{◌≡◌, ℕ, ◌<◌, List, [], ◌∷◌, length}
 use Rattle.bits.specs.Differences.{Burst}
 use Rattle.block.specs.declared.Parity.{Parity}
 use Rattle.block.specs.declared.Code.{Code}
@@ -24,6 +24,11 @@ pub record DifferInBurst (n : ℕ) (L : Lines) : Type 0 where
   pub burst : Burst n (differing_checked L A B)
   pub none_shorter : (b : ℕ) → b < n → Burst b (differing_checked L A B) → ⊥
 
+-- so, with as many checked bits as the burst has
+pub record DifferFromEndToEnd (n : ℕ) (L : Lines) : Type 0 where
+  pub in_burst : DifferInBurst n L
+  pub checked : length (L.checked_bits in_burst.A) ≡ n
+
 -- in just m bits, of these columns, with n counted bytes
 pub record DifferInColumns (m n : ℕ) (columns : List ℕ) (L : Lines) : Type 0 where
   pub in_just : DifferInJust m L
@@ -39,6 +44,9 @@ pub record SharpBounds : Type 0 where
   pub burst_4 : (c : Code) (p : Parity) → DifferInBurst 17 (lines_of (method_4 (table_of c) p))
   pub burst_5 : DifferInBurst 17 (lines_of method_5)
   pub burst_32 : DifferInBurst 33 (lines_of method_6)
+  -- frames of one content bit (document 02, card 13), which with its check is the burst
+  pub one_bit_5 : DifferFromEndToEnd 17 (lines_of method_5)
+  pub one_bit_32 : DifferFromEndToEnd 33 (lines_of method_6)
   -- with n + 1 = 8, columns 1 and 8; with n + 1 = 3, six bits
   pub four_diagonal : (p : Parity) → DifferInColumns 4 7 (1 ∷ 1 ∷ 8 ∷ 8 ∷ []) (lines_of (method_7 koi7 p))
   pub six_diagonal : (p : Parity) → DifferInColumns 6 2 (1 ∷ 1 ∷ 3 ∷ 3 ∷ 4 ∷ 4 ∷ []) (lines_of (method_7 koi7 p))

@@ -1,13 +1,13 @@
 -- A frame with a framing is one that passed 32 to 36; it is accepted where 37 finds its check right. Assumes nothing.
 use mathlib.Core.Path.{◌≡◌, refl, sym, ap, ◌∙◌}
 use mathlib.Core.Logic.{◌↔◌}
-use Prim.Native.Nat.{ℕ, ◌+◌, ◌-◌, ◌*◌, ◌%◌, ◌≤◌}
+use Prim.Native.Nat.{ℕ, ◌+◌, ◌-◌, ◌≤◌}
 use native.Mathlib.Omega.{arith}
 use mathlib.Core.Bool.{Bool, true, false}
 use mathlib.Core.List.{List}
-use lib.Dec.{leb, eqb}
+use lib.Dec.{leb}
 use lib.ListN.{length, take, drop}
-use borrow.Author.Tests.{leb-true, eqb-true}
+use borrow.Author.Tests.{leb-true}
 use Rattle.bits.proofs.Tests.{ask-passed}
 use Rattle.bits.specs.Strings.{same}
 use Rattle.bits.specs.Bytes.{bytes_for}
@@ -15,7 +15,7 @@ use Rattle.bits.specs.Differences.{set_from}
 use Rattle.bits.proofs.Strings.{same_sound, same_self}
 use Rattle.cyclic.specs.Check.{Parameters, check_bits}
 use Rattle.frame.specs.Stuffing.{Unstuffed, clean, missing, unstuff, behind_five}
-use Rattle.frame.specs.Frame.{width, flag}
+use Rattle.frame.specs.Frame.{width, limit_bits, flag}
 use Rattle.frame.specs.Read.{Framed, found, unframed, ask_length, ask_zeros, between, framed, none, framing, framing_by, framing_of, content_of, check_in, ask_check, read_bits}
 use Rattle.guarantees.specs.Lines.{SameFraming}
 use Rattle.guarantees.specs.Frames.{Accepts, Accepted, refusals, frames}
@@ -29,9 +29,8 @@ pub record Passed (m : Parameters) (frame s : List Bool) : Type 0 where
   pub opening : take 8 frame ≡ flag
   pub closing : drop (length frame - 8) frame ≡ flag
   pub zeros_stand : unstuff 0 8 (between frame) ≡ clean s
-  pub whole_bytes_lem : length s % 8 ≡ 0
-  pub content : 8 + width m ≤ length s
-  pub within : length s ≤ 8 * m.limit + width m
+  pub content : 1 + width m ≤ length s
+  pub within : length s ≤ limit_bits m + width m
 
 same_true : (a b : List Bool) → same a b ≡ true → a ≡ b
 same_true a b e = same_sound a b (rw e tt)
@@ -40,18 +39,16 @@ apart : {n v : ℕ} {s : List Bool} → unframed n v ≡ found s → ⊥
 apart {n = n} {v = v} {s = s} e = let z : ◌≡◌ {A = ℕ} 0 1 = cc in omega arith
 
 module _ (m : Parameters) (s : List Bool) where
-  lengths : (u : List Bool) → ask_length m u ≡ found s → (u ≡ s) × (length s % 8 ≡ 0) × (8 + width m ≤ length s) × (length s ≤ 8 * m.limit + width m)
+  pub lengths : (u : List Bool) → ask_length m u ≡ found s → (u ≡ s) × (1 + width m ≤ length s) × (length s ≤ limit_bits m + width m)
   lengths u e =
-      let a = ask-passed (eqb (length u % 8) 0) apart e in
-      let b = ask-passed (leb (8 + width m) (length u)) apart a.1 in
-      let c = ask-passed (leb (length u) (8 * m.limit + width m)) apart b.1 in
-      let q : u ≡ s = cc c.1 in
-      (q, rw (← q) (eqb-true _ _ a.0), rw (← q) (leb-true _ _ b.0), rw (← q) (leb-true _ _ c.0))
+      let a = ask-passed (leb (1 + width m) (length u)) apart e in
+      let b = ask-passed (leb (length u) (limit_bits m + width m)) apart a.1 in
+      let q : u ≡ s = cc b.1 in
+      (q, rw (← q) (leb-true _ _ a.0), rw (← q) (leb-true _ _ b.0))
 
-  zeros_of : (u : Unstuffed) → ask_zeros m u ≡ found s
-      → (u ≡ clean s) × (length s % 8 ≡ 0) × (8 + width m ≤ length s) × (length s ≤ 8 * m.limit + width m)
+  zeros_of : (u : Unstuffed) → ask_zeros m u ≡ found s → (u ≡ clean s) × (1 + width m ≤ length s) × (length s ≤ limit_bits m + width m)
   zeros_of (missing p) e = absurd (apart e)
-  zeros_of (clean u) e = let l = lengths u e in (ap clean l.0, l.1, l.2, l.3)
+  zeros_of (clean u) e = let l = lengths u e in (ap clean l.0, l.1, l.2)
 
   pub passed : (frame : List Bool) → framed m frame ≡ found s → Passed m frame s
   unfolding framed
@@ -65,9 +62,8 @@ module _ (m : Parameters) (s : List Bool) where
         opening = same_true _ _ b.0;
         closing = same_true _ _ c.0;
         zeros_stand = z.0;
-        whole_bytes_lem = z.1;
-        content = z.2;
-        within = z.3;
+        content = z.1;
+        within = z.2;
       }
 
 -- ---- a frame with a framing; accepted where 37 finds its check right

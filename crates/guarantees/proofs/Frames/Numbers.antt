@@ -1,15 +1,15 @@
 -- The numbers of reading a frame: each refusal but 38 is one of `refusals`, so that accepted means none of them. Assumes nothing.
 use mathlib.Core.Path.{◌≡◌, refl}
-use Prim.Native.Nat.{ℕ, ◌+◌, ◌-◌, ◌*◌, ◌%◌}
+use Prim.Native.Nat.{ℕ, ◌+◌, ◌-◌, ◌*◌}
 use mathlib.Core.Bool.{Bool, true, false, cond}
 use mathlib.Core.List.{List}
-use lib.Dec.{leb, eqb}
+use lib.Dec.{leb}
 use lib.ListN.{length, take, drop}
 use Rattle.bits.specs.Strings.{same}
 use Rattle.bits.specs.Bytes.{bits_of, bytes_for}
 use Rattle.cyclic.specs.Check.{Parameters, check_bits}
 use Rattle.frame.specs.Stuffing.{Unstuffed, clean, missing, unstuff}
-use Rattle.frame.specs.Frame.{width, flag}
+use Rattle.frame.specs.Frame.{width, limit_bits, flag}
 use Rattle.frame.specs.Read.{Framed, found, unframed, ask, ask_zeros, between, framed, content_of, check_in, ReadAnswer, taken, refusal, ask_check, read_bits, read_frame}
 use Rattle.guarantees.specs.Lines.{is_one_of}
 use Rattle.guarantees.specs.Frames.{refusals, AcceptsByNumber}
@@ -28,9 +28,8 @@ ask_numbered false n v next a h = a
 zeros_numbered : (m : Parameters) (u : Unstuffed) → FramedNumbered (ask_zeros m u)
 zeros_numbered m (missing p) = refl
 zeros_numbered m (clean s) =
-    ask_numbered (eqb (length s % 8) 0) 34 0 _ refl
-    (ask_numbered (leb (8 + width m) (length s)) 35 0 _ refl
-    (ask_numbered (leb (length s) (8 * m.limit + width m)) 36 0 (found s) refl tt))
+    ask_numbered (leb (1 + width m) (length s)) 35 0 _ refl
+    (ask_numbered (leb (length s) (limit_bits m + width m)) 36 0 (found s) refl tt)
 
 pub framed_numbered : (m : Parameters) (frame : List Bool) → FramedNumbered (framed m frame)
 unfolding framed
