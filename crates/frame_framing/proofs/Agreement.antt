@@ -1,4 +1,4 @@
--- The walk and the framing put questions 31 to 33 alike: where the walk refuses, so does the framing; else it goes on to 34 to 36 with
+-- The walk and the framing put questions 31 to 33 alike: where the walk refuses, so does the framing; else it goes on to 35 and 36 with
 -- the bits that the walk passed. Assumes nothing.
 use mathlib.Core.Path.{◌≡◌, refl, sym, subst}
 use mathlib.Core.Bool.{Bool, true, false, cond}
@@ -12,14 +12,14 @@ use Rattle.cyclic.specs.Check.{Parameters, formula}
 use Rattle.frame.specs.Stuffing.{Unstuffed, clean, missing, unstuff}
 use Rattle.frame.specs.Frame.{flag}
 use Rattle.frame.specs.Read as rule
-use Rattle.frame_walk.specs.Walk.{Walked, closed, refused, whole_bytes, walk_zeros, walk_bits, walk_of}
+use Rattle.frame_walk.specs.Walk.{Walked, closed, refused, walk_zeros, walk_bits, walk_of}
 use Rattle.frame_walk.specs.Walk as walk
 use Rattle.frame_framing.specs.Framing.{FramingAnswer, unframed, answer_of, framing_answer}
 
 pub record Passed (m : Parameters) (end count register : ℕ) (x : FramingAnswer) : Type 0 where
   pub bits : List Bool
   pub counted : count ≡ length bits
-  pub held : register ≡ value (formula m (whole_bytes bits))
+  pub held : register ≡ value (formula m bits)
   pub asked : answer_of m end (rule.ask_length m bits) ≡ x
 
 abbrev Agrees : Parameters → Walked → FramingAnswer → Type 0

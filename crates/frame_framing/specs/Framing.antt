@@ -1,4 +1,4 @@
--- The framing of a frame as the reader finds it: questions 31 to 36, and question 37 put beforehand. Assumes nothing.
+-- The framing of a frame as the reader finds it: questions 31 to 33, 35 and 36, and question 37 put beforehand. Assumes nothing.
 use Rattle.std.specs.Prelude.{ℕ, ◌-◌, ◌*◌, Bool, cond, List, leb, length, take, Result, Ok, Err}
 use Rattle.bits.specs.Strings.{same}
 use Rattle.bits.specs.Bytes.{bits_of}
@@ -18,7 +18,7 @@ abbrev pub of_framing : Result Body ReadRefusal → FramingAnswer
 of_framing (Ok b) = found b.end b.count b.right
 of_framing (Err r) = unframed (read_number r) (read_value r)
 
--- 32 to 36
+-- 32, 33, 35 and 36
 abbrev pub answer_of : Parameters → ℕ → rule.Framed → FramingAnswer
 answer_of m end (rule.found s) = found end (length s) (same (rule.check_in m s) (check_bits m (rule.content_of m s)))
 answer_of m end (rule.unframed number value) = unframed number value

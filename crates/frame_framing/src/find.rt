@@ -1,4 +1,4 @@
-// Questions 34 to 36, after those of the walk.
+// Questions 35 and 36, after those of the walk.
 ghost use Rattle.std.specs.Prelude.{◌≡◌};
 ghost use Rattle.frame.specs.Frame.{parameters_of};
 ghost use Rattle.frame_framing.specs.Framing.{of_framing, framing_answer};
@@ -7,7 +7,7 @@ ghost use Rattle.frame_framing.specs.Steps.{Leaves, Asked};
 use crate::Body;
 use cyclic5::Cyclic5;
 use cyclic6::Cyclic6;
-use frame::{FrameMethod, ReadRefusal, check_width, limit};
+use frame::{FrameMethod, ReadRefusal, check_width, limit_bits};
 use frame_walk::{Walk, walk_frame};
 
 // What content and check leave in the register where the check is right (003 par. 2.2.3).
@@ -20,18 +20,15 @@ fn residue(m: FrameMethod) -> u32
     }
 }
 
-// Questions 34 to 36, and whether the check is right.
+// Questions 35 and 36, and whether the check is right.
 fn ask_length(m: FrameMethod, w: Walk) -> Result<Body, ReadRefusal>
     ensures { Asked (parameters_of m) w result }
 {
     let width = check_width(m);
-    if w.count % 8 != 0 {
-        return Err(ReadRefusal::PartOfByte);
-    }
-    if w.count < 8 + width {
+    if w.count < 1 + width {
         return Err(ReadRefusal::NoContent);
     }
-    if w.count > 8 * limit(m) + width {
+    if w.count > limit_bits(m) + width {
         return Err(ReadRefusal::TooLong);
     }
     Ok(Body {

@@ -1,4 +1,4 @@
-// Finding the framing of a frame (document 01, part 4): questions 31 to 36, and whether the check is right. `find_framing` takes every
+// Finding the framing of a frame (document 01, part 4): questions 31 to 33, 35 and 36, and whether the check is right. `find_framing` takes every
 // input.
 #![tactic(auto)]
 

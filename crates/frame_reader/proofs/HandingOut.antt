@@ -33,12 +33,12 @@ packed_next s t byte n b e h = ap₂ (λ x y. x ∷ pack_into (n - 1) y) b e ∙
 
 pub record HandingOut (lent : List ℕ) (end n : ℕ) (first out : List ℕ) (reader : LineReader) (index i : ℕ) : Type 0 where
   pub to_store : sets out i (pack_into (n - i) (data_of (left_at (bits_of lent) end index reader))) ≡ sets first 0 (pack_into n (data_between (bits_of lent) end))
-  pub enough : 8 * (n - i) + 16 ≤ length (data_of (left_at (bits_of lent) end index reader))
+  pub enough : 8 * (n - i) + 8 ≤ length (data_of (left_at (bits_of lent) end index reader))
   pub fits : ReaderFits reader
   pub within : i ≤ n
   pub size : length out ≡ length first
 
-pub hand_begin : (lent : List ℕ) (end n : ℕ) (first : List ℕ) → 8 * n + 16 ≤ length (data_between (bits_of lent) end)
+pub hand_begin : (lent : List ℕ) (end n : ℕ) (first : List ℕ) → 8 * n + 8 ≤ length (data_between (bits_of lent) end)
     → {r : LineReader} → r ≡ first_reader → HandingOut lent end n first first r 1 0
 hand_begin lent end n first h q =
     let e : n - 0 ≡ n = omega arith in
@@ -113,8 +113,8 @@ module _ {lent : List ℕ} {end n : ℕ} {first out : List ℕ} {r : LineReader}
         }
 
 -- the first byte behind the opening flag stands before the closing one
-pub hand_room : (lent : List ℕ) (end n : ℕ) → end ≤ 8 * length lent → 8 * n + 16 ≤ length (data_between (bits_of lent) end) → 16 ≤ end
-hand_room lent end n fit h =
+pub hand_room : (lent : List ℕ) (end n : ℕ) → 0 < n → end ≤ 8 * length lent → 8 * n + 8 ≤ length (data_between (bits_of lent) end) → 16 ≤ end
+hand_room lent end n some fit h =
     let d = ap length (ap data_of (first-left (bits_of lent) end)) in
     byte-ahead lent end fit 1 first_reader first_fits.pending_small (omega (arith, d))
 

@@ -1,2 +1,3 @@
 pub mod HandingOut
 pub mod ReadFrame
+pub mod Spare

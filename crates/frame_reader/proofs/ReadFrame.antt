@@ -2,24 +2,23 @@
 use mathlib.Core.Path.{◌≡◌, refl, sym, ap, ap₂, ◌∙◌}
 use mathlib.Core.Bool.{Bool, true, false, cond}
 use mathlib.Core.List.{List, ◌++◌}
-use Prim.Native.Nat.{ℕ, ◌+◌, ◌*◌, ◌-◌, ◌/◌, ◌%◌, ◌<◌, ◌≤◌}
+use Prim.Native.Nat.{ℕ, ◌+◌, ◌*◌, ◌-◌, ◌<◌, ◌≤◌}
 use native.Mathlib.Omega.{arith}
-use borrow.Author.Tests.{eqb-true, leb-true, le-leb, lt-leb}
-use lib.Dec.{eqb, leb}
+use borrow.Author.Tests.{leb-true, le-leb, lt-leb}
+use lib.Dec.{leb}
 use lib.ListN.{length, take, drop}
 use lib.Seq.{sets, sets-eq, length-take-le}
 use Rattle.std.specs.Prelude.{Result, Ok, Err}
 use Rattle.bits.specs.Strings.{same}
-use Rattle.bits.specs.Bytes.{bits_of, bytes_for, pack_into, pack}
+use Rattle.bits.specs.Bytes.{bits_of, bytes_for, pack}
 use Rattle.bits.specs.Calls.{called}
 use Rattle.bits.proofs.Packing.{length-pack}
 use Rattle.bits.proofs.Tests.{ask-passed}
-use Rattle.bits.proofs.WholeBytes.{pack_into-pack}
 use Rattle.cyclic.specs.Check.{Parameters, check_bits}
 use Rattle.frame.specs.declared.FrameMethod.{FrameMethod}
 use Rattle.frame.specs.declared.ReadRefusal.{ReadRefusal}
 use Rattle.frame.specs.Stuffing.{Unstuffed, clean, missing, unstuff}
-use Rattle.frame.specs.Frame.{parameters_of, width, flag}
+use Rattle.frame.specs.Frame.{parameters_of, width, limit_bits, flag}
 use Rattle.frame.specs.Read.{Framed, ask_zeros, between, framed, content_of, check_in, ReadAnswer, taken, refusal, ask_check, read_bits, read_frame, read_output}
 use Rattle.frame.specs.Read as rule
 use Rattle.frame.specs.Answers.{content, refused, read_number, read_value, after_reading}
@@ -27,7 +26,6 @@ use Rattle.frame.proofs.Told.{told_length, between_told}
 use Rattle.zero_removal.specs.Reader.{data_of}
 use Rattle.frame_framing.specs.declared.Body.{Body}
 use Rattle.frame_framing.specs.Framing.{found, unframed, of_framing, answer_of, framing_answer}
-use Rattle.frame.proofs.Sizes.{sizes}
 use Rattle.frame_reader.specs.Steps.{data_between}
 
 -- ---- a framing that was found
@@ -36,18 +34,17 @@ not_found : {n v : ℕ} {s : List Bool} → rule.unframed n v ≡ rule.found s �
 not_found {n} {v} {s} e = let z : ◌≡◌ {A = ℕ} 0 1 = cc in omega arith
 
 zeros-passed : (m : Parameters) (u : Unstuffed) (s : List Bool) → ask_zeros m u ≡ rule.found s
-    → (s ≡ data_of u) × (length s % 8 ≡ 0) × (8 + width m ≤ length s)
+    → (s ≡ data_of u) × (1 + width m ≤ length s)
 unfolding data_of
 zeros-passed m (missing p) s e = absurd (let z : ◌≡◌ {A = ℕ} 0 1 = cc in omega arith)
 zeros-passed m (clean t) s e =
     let k = length t in
-    let content = leb (8 + width m) k in
-    let within = leb k (8 * m.limit + width m) in
-    let p = ask-passed (eqb (k % 8) 0) not_found e in
-    let q = ask-passed content not_found p.1 in
+    let content = leb (1 + width m) k in
+    let within = leb k (limit_bits m + width m) in
+    let q = ask-passed content not_found e in
     let r = (ask-passed within not_found q.1).1 in
     let z : s ≡ t = cc in
-    (z, ap (λ x. length x % 8) z ∙ eqb-true (k % 8) 0 p.0, omega (arith, ap length z, leb-true (8 + width m) k q.0))
+    (z, omega (arith, ap length z, leb-true (1 + width m) k q.0))
 
 -- content and check are what a reader behind the opening flag has to give
 pub record FramingFound (method : FrameMethod) (lent : List ℕ) (told end count : ℕ) (right : Bool) : Type 0 where
@@ -55,8 +52,7 @@ pub record FramingFound (method : FrameMethod) (lent : List ℕ) (told end count
   pub end_within : end ≤ 8 * length lent
   pub framed_is : framed (parameters_of method) (take told (bits_of lent)) ≡ rule.found (data_between (bits_of lent) end)
   pub counted : count ≡ length (data_between (bits_of lent) end)
-  pub whole : length (data_between (bits_of lent) end) % 8 ≡ 0
-  pub has_content : 8 + width (parameters_of method) ≤ length (data_between (bits_of lent) end)
+  pub has_content : 1 + width (parameters_of method) ≤ length (data_between (bits_of lent) end)
   pub asked : right
       ≡ same (check_in (parameters_of method) (data_between (bits_of lent) end)) (check_bits (parameters_of method) (content_of (parameters_of method) (data_between (bits_of lent) end)))
 
@@ -85,8 +81,7 @@ framed_found method lent told within (rule.found s) q {end} {count} {right} e =
       end_within = omega arith;
       framed_is = q ∙ ap rule.found is;
       counted = n ∙ ap length is;
-      whole = ap (λ l. length l % 8) (sym is) ∙ z.1;
-      has_content = omega (arith, ap length is, z.2);
+      has_content = omega (arith, ap length is, z.1);
       asked = r ∙ ap (λ t. same (check_in m t) (check_bits m (content_of m t))) is;
     }
 
@@ -139,28 +134,28 @@ module _ {method : FrameMethod} {lent : List ℕ} {told end count : ℕ} {r : Bo
   wrong_check h = answer_is ∙ simp (sym f.asked ∙ h)
 
   module _ (right : r ≡ true) {w : ℕ} (wide : w ≡ width m) where
-    abbrev needed : ℕ
-    needed = (count - w) / 8
+    pub content-bits : count - w ≡ length s - width m
+    content-bits = omega (arith, f.counted, f.has_content)
 
-    pub content-bits : 8 * needed ≡ length s - width m
-    content-bits = omega (arith, f.counted, f.whole, f.has_content, (sizes method).whole_bytes_lem)
-
-    content_bytes : bytes_for (length c) ≡ needed
-    content_bytes =
+    content-length : length c ≡ count - w
+    content-length =
         let h : length s - width m ≤ length s = omega arith in
-        omega (arith, length-take-le (length s - width m) s h, content-bits)
+        length-take-le (length s - width m) s h ∙ sym content-bits
 
-    pub output_short : length out < needed → read_frame m told lent (length out) ≡ refusal 38 needed
-    output_short h = answer_is ∙ simp (sym f.asked ∙ right, content_bytes, lt-leb needed (length out) h)
+    module _ {needed : ℕ} (bytes : needed ≡ bytes_for (count - w)) where
+      content_bytes : bytes_for (length c) ≡ needed
+      content_bytes = ap bytes_for content-length ∙ sym bytes
 
-    -- a frame that is taken: its number, and the content at the start of the output
-    pub is_taken : needed ≤ length out → {after : List ℕ} → after ≡ sets out 0 (pack_into needed s)
-        → called (content needed) after ≡ after_reading (read_frame m told lent (length out)) out
-    unfolding read_output
-    is_taken h {after} e =
-        let taken_is : read_frame m told lent (length out) ≡ taken c = answer_is ∙ simp (sym f.asked ∙ right, content_bytes, le-leb needed (length out) h) in
-        let p : pack_into needed s ≡ pack c = pack_into-pack needed s (omega (arith, content-bits)) ∙ ap (λ k. pack (take k s)) content-bits in
-        let q : 0 + length (pack c) ≡ bytes_for (length c) = omega (arith, length-pack c) in
-        let stored : after ≡ pack c ++ drop (bytes_for (length c)) out =
-        e ∙ ap (sets out 0) p ∙ sets-eq (pack c) out 0 (omega (arith, content_bytes)) ∙ ap (λ k. pack c ++ drop k out) q in
-        ap₂ called (ap content (sym content_bytes)) stored ∙ sym (ap (λ x. after_reading x out) taken_is)
+      pub output_short : length out < needed → read_frame m told lent (length out) ≡ refusal 38 needed
+      output_short h = answer_is ∙ simp (sym f.asked ∙ right, content_bytes, lt-leb needed (length out) h)
+
+      -- a frame that is taken: its bits, and the content at the start of the output
+      pub is_taken : needed ≤ length out → {after : List ℕ} → after ≡ sets out 0 (pack (take (count - w) s))
+          → called (content (count - w)) after ≡ after_reading (read_frame m told lent (length out)) out
+      unfolding read_output
+      is_taken h {after} e =
+          let taken_is : read_frame m told lent (length out) ≡ taken c = answer_is ∙ simp (sym f.asked ∙ right, content_bytes, le-leb needed (length out) h) in
+          let q : 0 + length (pack c) ≡ bytes_for (length c) = omega (arith, length-pack c) in
+          let stored : after ≡ pack c ++ drop (bytes_for (length c)) out =
+          e ∙ ap (λ k. sets out 0 (pack (take k s))) content-bits ∙ sets-eq (pack c) out 0 (omega (arith, content_bytes, length-pack c)) ∙ ap (λ k. pack c ++ drop k out) q in
+          ap₂ called (ap content (sym content-length)) stored ∙ sym (ap (λ x. after_reading x out) taken_is)

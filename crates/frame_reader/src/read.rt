@@ -1,4 +1,4 @@
-// Reading a frame: questions 31 to 38, then the content handed out.
+// Reading a frame: questions 31 to 33 and 35 to 38, then the content handed out.
 ghost use Rattle.std.specs.Prelude.{◌≡◌};
 ghost use Rattle.bits.specs.Calls.{called};
 ghost use Rattle.frame.specs.Answers.{of_read, read_call};
@@ -7,7 +7,7 @@ use crate::content::hand_out;
 use frame::{FrameMethod, ReadRefusal, check_width};
 use frame_framing::find_framing;
 
-// Document 01, part 4: reads the frame that is the first `bits` bits of the bytes lent. The number of bytes of its content.
+// Document 01, part 4: reads the frame that is the first `bits` bits of the bytes lent. The number of bits of its content.
 pub fn read_frame(
     method: FrameMethod,
     bits: usize,
@@ -24,10 +24,11 @@ pub fn read_frame(
     if !f.right {
         return Err(ReadRefusal::WrongCheck);
     }
-    let needed = (f.count - check_width(method)) / 8;
+    let content = f.count - check_width(method);
+    let needed = content.div_ceil(8);
     if needed > out.len() {
         return Err(ReadRefusal::OutputShort(needed));
     }
-    hand_out(lent, end, needed, &mut *out);
-    Ok(needed)
+    hand_out(lent, end, content, &mut *out);
+    Ok(content)
 }

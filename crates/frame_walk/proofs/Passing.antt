@@ -187,7 +187,7 @@ module _ (table : List ℕ) (register count : ℕ) (r : LineReader) (lent : List
         let w : 8 + (length s - 8) ≡ length s = omega (arith, h) in
         sym (low_bits-append 8 (length s - 8) (value s)) ∙ ap (λ n. low_bits n (value s)) w ∙ low_bits-value s
 
-    pub last_byte : (x.bits < 8 → ⊥) → {whole next : ℕ} → whole ≡ enter_by_table table register (bit_and x.held 255)
+    pub last_byte : 8 ≤ x.bits → {whole next : ℕ} → whole ≡ enter_by_table table register (bit_and x.held 255)
         → next ≡ enter_bits_by_table table whole (bit_and (x.held / 256) 255) (x.bits - 8)
         → closed end (count + x.bits) next ≡ passed table end register count (left_at (bits_of lent) end i r)
     last_byte h {whole} ew en =

@@ -11,12 +11,11 @@ use lib.Bits.{bit_and, bit_or}
 use lib.Count.{count_leading_zeros, leading_unique}
 use lib.Dec.{eqb}
 use lib.Pow.{pow_pos, pow-lt, pow_mono, low}
-use lib.ListN.{length, take, length-append, length-replicate}
-use lib.Seq.{take_at, take-append-le}
+use lib.ListN.{length, length-append, length-replicate}
 use Rattle.std.proofs.lemmas.Nat.{and_mask}
 use Rattle.bits.specs.Strings.{zeros}
 use Rattle.bits.specs.Bytes.{low_bits, value}
-use Rattle.bits.proofs.Bytes.{length-low_bits, low_bits-mod, low_bits-zero, low_bits-value-zeros, low_bits_injective, value_lt, value-low_bits, value_snoc}
+use Rattle.bits.proofs.Bytes.{length-low_bits, low_bits-mod, low_bits-zero, low_bits-value-zeros, low_bits_injective, value_lt, value_snoc}
 use Rattle.frame.specs.Stuffing.{Unstuffed, clean, missing, ahead, unstuff_bit, ones_after, unstuff}
 use Rattle.frame.proofs.Words.{join, joined-or, joined_small, joined-bits}
 use Rattle.zero_removal.specs.declared.LineReader.{LineReader}

@@ -1,4 +1,4 @@
--- `find_framing` meets its contract: the walk's refusals, then questions 34 to 36. Assumes nothing.
+-- `find_framing` meets its contract: the walk's refusals, then questions 35 and 36. Assumes nothing.
 use mathlib.Core.Path.{sym, ap, ◌∙◌}
 use Rattle.std.proofs.Common.{Err}
 use Rattle.std.proofs.lemmas.Result.{err_from_is_err_and}

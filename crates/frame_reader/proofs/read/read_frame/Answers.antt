@@ -17,8 +17,8 @@ returns-then-not-f c =
     let f = framing_found a.method a.lent.now a.bits c.find_framing-framing.ensures c.in-Ok.is in
     is_refused a.out.now (wrong_check f a.out.now (not-true _ c.if-not-f.true))
 
-pub overflow_sub-needed : goal.overflow_sub-needed
-overflow_sub-needed c =
+pub overflow_sub-content : goal.overflow_sub-content
+overflow_sub-content c =
     let a = c.args in
     let f = framing_found a.method a.lent.now a.bits c.find_framing-framing.ensures c.in-Ok.is in
     omega (arith, f.counted, f.has_content)
@@ -28,7 +28,7 @@ returns-then-needed-out c =
     let a = c.args in
     let f = framing_found a.method a.lent.now a.bits c.find_framing-framing.ensures c.in-Ok.is in
     let right = not-false _ c.if-not-f.false in
-    is_refused a.out.now (output_short f a.out.now right c.check_width.ensures c.if-needed-out.true)
+    is_refused a.out.now (output_short f a.out.now right c.check_width.ensures (omega arith) c.if-needed-out.true)
 
 pub hand_out-requires : goal.hand_out-requires
 hand_out-requires c =
@@ -37,11 +37,11 @@ hand_out-requires c =
     let right = not-false _ c.if-not-f.false in
     let n = content-bits f a.out.now right c.check_width.ensures in
     let w = (sizes a.method).width_large in
-    (f.end_within, omega (arith, f.has_content), omega arith)
+    (omega (arith, n, f.has_content), f.end_within, omega (arith, n, f.has_content, w), omega arith)
 
 pub returns : goal.returns
 returns c =
     let a = c.args in
     let f = framing_found a.method a.lent.now a.bits c.find_framing-framing.ensures c.in-Ok.is in
     let right = not-false _ c.if-not-f.false in
-    is_taken f a.out.now right c.check_width.ensures c.if-needed-out.false c.hand_out.ensures
+    is_taken f a.out.now right c.check_width.ensures (omega arith) c.if-needed-out.false c.hand_out.ensures
