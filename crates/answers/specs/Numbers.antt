@@ -43,10 +43,10 @@ written_numbers answer = value_numbers (block_number answer) (written_value answ
 
 -- ---- frames
 
--- the bits of a written frame; the bytes of a content; a refusal's value
+-- the bits of a written frame; those of a content; a refusal's value
 abbrev pub frame_numbers : frame.Numbers → ValueNumbers
 frame_numbers (frame.frame bits) = value_numbers 0 bits
-frame_numbers (frame.content bytes) = value_numbers 0 bytes
+frame_numbers (frame.content bits) = value_numbers 0 bits
 frame_numbers (frame.refused number value) = value_numbers number value
 
 -- ---- numbers

@@ -83,13 +83,13 @@ read_frame_by (Some m) bits lent out = frame_call (frame.read_call m bits lent o
 abbrev pub read_frame_call : ℕ → ℕ → List ℕ → List ℕ → Call
 read_frame_call m bits lent out = read_frame_by (frame_method_of m) bits lent out
 
-abbrev pub write_frame_by : Option FrameMethod → List ℕ → List ℕ → Call
-write_frame_by None content out = unknown_code 1 out
-write_frame_by (Some m) content out = frame_call (frame.write_call m content out)
+abbrev pub write_frame_by : Option FrameMethod → ℕ → List ℕ → List ℕ → Call
+write_frame_by None bits lent out = unknown_code 1 out
+write_frame_by (Some m) bits lent out = frame_call (frame.write_call m bits lent out)
 
--- of `method`, the content and the output
-abbrev pub write_frame_call : ℕ → List ℕ → List ℕ → Call
-write_frame_call m content out = write_frame_by (frame_method_of m) content out
+-- of `method`, the claimed bits, the bytes lent and the output
+abbrev pub write_frame_call : ℕ → ℕ → List ℕ → List ℕ → Call
+write_frame_call m bits lent out = write_frame_by (frame_method_of m) bits lent out
 
 -- ---- numbers
 

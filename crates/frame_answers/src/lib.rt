@@ -17,7 +17,6 @@ fn read_refusal(refusal: ReadRefusal) -> ValueNumbers
         ReadRefusal::BitsNotLent => numbers(31, 0),
         ReadRefusal::NoFlags => numbers(32, 0),
         ReadRefusal::ZeroMissing(at) => numbers(33, at.0),
-        ReadRefusal::PartOfByte => numbers(34, 0),
         ReadRefusal::NoContent => numbers(35, 0),
         ReadRefusal::TooLong => numbers(36, 0),
         ReadRefusal::WrongCheck => numbers(37, 0),
@@ -29,7 +28,7 @@ pub fn frame_read(read: Result<usize, ReadRefusal>) -> ValueNumbers
     ensures { result ≡ frame_numbers (of_read read) }
 {
     match read {
-        Ok(bytes) => numbers(0, bytes),
+        Ok(bits) => numbers(0, bits),
         Err(refusal) => read_refusal(refusal),
     }
 }
@@ -38,6 +37,7 @@ fn write_refusal(refusal: WriteRefusal) -> ValueNumbers
     ensures { result ≡ value_numbers (write_number refusal) (write_value refusal) }
 {
     match refusal {
+        WriteRefusal::BitsNotLent => numbers(66, 0),
         WriteRefusal::NoContent => numbers(21, 0),
         WriteRefusal::TooLong => numbers(22, 0),
         WriteRefusal::OutputShort(needed) => numbers(23, needed),

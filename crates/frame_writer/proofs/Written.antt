@@ -1,6 +1,6 @@
 -- A frame as a whole: its parts counted or put one after the other between two flags are the rule's frame. Assumes nothing.
 use mathlib.Core.Path.{◌≡◌, refl, sym, ap, ap₂, ◌∙◌, subst}
-use Prim.Native.Nat.{ℕ, ◌+◌, ◌-◌, ◌*◌, ◌/◌, ◌%◌, ◌^◌, ◌≤◌, ◌<◌}
+use Prim.Native.Nat.{ℕ, ◌+◌, ◌*◌, ◌/◌, ◌%◌, ◌^◌, ◌≤◌, ◌<◌}
 use native.Mathlib.Nat.{add_comm, mod-eq_of_lt, lt_trans}
 use lib.Bits.{bit_and, bit_or}
 use lib.Pow.{pow-lt}
@@ -8,13 +8,13 @@ use native.Mathlib.Omega.{arith}
 use mathlib.Core.Bool.{Bool, true, false, cond}
 use mathlib.Core.List.{List, [], ◌∷◌, ◌++◌, append_assoc, append-nil}
 use lib.Dec.{eqb, lit<}
-use lib.ListN.{length, take, drop, get_or, set, length-append}
-use lib.Seq.{sets, sets-eq, take_at, take-add}
+use lib.ListN.{length, take, drop, set, length-append}
+use lib.Seq.{sets, sets-eq}
 use borrow.Author.Tests.{eqb-true, le-leb, lt-leb}
 use Rattle.std.proofs.lemmas.Nat.{and_mask}
 use Rattle.bits.specs.Bytes.{low_bits, bits_of, bytes_for, pack_into, pack}
 use Rattle.bits.specs.Calls.{called}
-use Rattle.bits.proofs.Bytes.{length-low_bits, low_bits-append, length-bits_of}
+use Rattle.bits.proofs.Bytes.{length-low_bits, length-bits_of}
 use Rattle.bits.proofs.Packing.{bits_of-little_endian, pack-low_bits, length-pack}
 use Rattle.registers.specs.Register.{enter}
 use Rattle.registers.proofs.Enter.{enter-append}
@@ -36,7 +36,7 @@ use Rattle.frame.proofs.Stuffing.{run_on_le}
 use Rattle.frame.proofs.Told.{told_length}
 use Rattle.frame_writer.proofs.Stepping.{divided, pair_divided, bits_stepped, bits_opened}
 use Rattle.frame_writer.proofs.Writers.{run, counts_append, Putting, put_begin, put_turn, put_whole}
-use Rattle.frame.proofs.Words.{join, joined-or, joined_small, joined-bits, byte-bits, store_byte, pack_part, rest_small, bits_of_on, bits_of-take, bits_of-drop}
+use Rattle.frame.proofs.Words.{join, joined-or, joined_small, joined-bits, byte-bits, store_byte, pack_part, rest_small}
 
 -- ---- between two flags
 
@@ -141,32 +141,7 @@ module _ (out : List ℕ) (w : BitWriter) where
         ap₂ (λ x y. set (set out w.count.at.index x) (w.count.at.index + 1) y) first_byte (ed ∙ and_mask (code_word / 256) 8 ∙ ap (λ x. x / 256 % 256) word-or ∙ v)
         ∙ sym (stored-flag ∙ ap (sets (set out w.count.at.index (word % 256)) (w.count.at.index + 1)) (pack_part w.count.at.place (word / 256) p w.count.at.place_small))
 
--- ---- a content
-
--- whole bytes, and the lowest bits of the byte behind them where there are any
-pub content_parts : (lent : List ℕ) (bits last : ℕ) → bits ≤ 8 * length lent → (bits % 8 ≡ 0 → ⊥) → last ≡ get_or lent (bits / 8) 0
-    → bits_of (take (bits / 8) lent) ++ low_bits (bits % 8) last ≡ take bits (bits_of lent)
-content_parts lent bits last h n e =
-    let i = bits / 8 in
-    let k = bits % 8 in
-    let b = get_or lent i 0 in
-    let q : bits ≡ 8 * i + k = omega arith in
-    let w : 8 ≡ k + (8 - k) = omega arith in
-    let rest = bits_of (drop (i + 1) lent) in
-    let high = low_bits (8 - k) (b / 2 ^ k) in
-    ap₂ (λ x y. x ++ low_bits k y) (sym (bits_of-take i lent)) e
-    ∙ ap (λ z. take (8 * i) (bits_of lent) ++ z)
-    (sym (ap (take k) (bits_of-drop i lent ∙ bits_of_on lent i (omega (arith, n, h)) ∙ ap (λ s. s ++ rest) (ap (λ w. low_bits w b) w ∙ low_bits-append k (8 - k) b) ∙ append_assoc (low_bits k b) high rest)
-    ∙ take_at (low_bits k b) (high ++ rest) k (length-low_bits k b)))
-    ∙ sym (take-add (8 * i) k (bits_of lent)) ∙ ap (λ n. take n (bits_of lent)) (sym q)
-
--- whole bytes alone
-pub content_whole : (lent : List ℕ) (bits last : ℕ) → bits % 8 ≡ 0 → bits_of (take (bits / 8) lent) ++ low_bits (bits % 8) last ≡ take bits (bits_of lent)
-unfolding low_bits
-content_whole lent bits last z =
-    let q : 8 * (bits / 8) ≡ bits = omega (arith, z) in
-    ap (λ k. bits_of (take (bits / 8) lent) ++ low_bits k last) z ∙ append-nil (bits_of (take (bits / 8) lent))
-    ∙ sym (bits_of-take (bits / 8) lent) ∙ ap (λ n. take n (bits_of lent)) q
+-- ---- the check of a content
 
 -- the register after the whole bytes and the last bits holds the check
 pub checks : (w : ℕ) (m : Parameters) → OfWidth w m → (bytes : List ℕ) (last start between after check : List Bool)

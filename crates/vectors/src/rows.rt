@@ -19,7 +19,7 @@ fn even(method: Method) -> Link {
 
 pub fn row_13(rt: &impl Print) -> io::Result<()> {
     let mut out = [0u8; 16];
-    let written = write_frame(FrameMethod::Cyclic32, b"\xff", &mut out);
+    let written = write_frame(FrameMethod::Cyclic32, 8, b"\xff", &mut out);
     print_written(
         rt,
         "row 13, write FF, method 6:",

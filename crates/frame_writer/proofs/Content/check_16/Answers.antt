@@ -13,4 +13,4 @@ pub returns : goal.returns
 unfolding method5
 returns c =
     let a = c.args.self in
-    checks 16 method5 width_5 a.bytes.now (low_bits a.bits a.last) _ _ _ _ (began c.new.ensures.constants) c.enter.ensures c.enter_bits.ensures c.check.ensures
+    checks 16 method5 width_5 a.bytes.now (low_bits a.bits a.last) _ _ _ _ (began c.new.ensures.constants) c.enter-whole.ensures c.enter_bits.ensures c.check.ensures
