@@ -1,18 +1,19 @@
 -- A written frame comes back: by the second property its content is read where the output holds it, and the questions before the
 -- output's do not depend on its length. Assumes nothing.
-use mathlib.Core.Path.{◌≡◌, refl, sym, ap, ◌∙◌}
+use mathlib.Core.Path.{◌≡◌, refl, sym, ap, ap₂, ◌∙◌}
 use Prim.Native.Nat.{ℕ, ◌*◌, ◌≤◌}
 use native.Mathlib.Omega.{arith}
 use mathlib.Core.Bool.{Bool, true, false, cond}
 use mathlib.Core.List.{List, ◌++◌}
 use lib.Dec.{leb}
 use Rattle.std.specs.Prelude.{Result, Ok, Err}
-use lib.ListN.{length, take, drop, length-append}
-use lib.Seq.{take_at}
+use lib.ListN.{length, take, drop, length-append, length-take}
+use lib.Seq.{take-append-le}
 use Rattle.bits.specs.Strings.{same}
-use Rattle.bits.specs.Bytes.{bits_of, bytes_for, pack, Bytes}
+use Rattle.bits.specs.Bytes.{bits_of, bytes_for, pack}
 use Rattle.bits.specs.Calls.{called}
-use Rattle.bits.proofs.Packing.{length-pack, pack-bits_of}
+use Rattle.bits.proofs.Bytes.{length-bits_of, bits_of-append}
+use Rattle.bits.proofs.Packing.{length-pack, take-bits_of-pack}
 use Rattle.cyclic.specs.Check.{Parameters, check_bits}
 use Rattle.frame.specs.declared.FrameMethod.{FrameMethod}
 use Rattle.frame.specs.declared.FrameMethod.TheVariants.{Cyclic16, Cyclic32}
@@ -24,6 +25,7 @@ use Rattle.frame.specs.Write as writing
 use Rattle.frame.specs.Answers.{of_read, of_read_answer, after_reading, read_call, of_written, of_write_answer, write_call}
 use Rattle.guarantees.specs.Second.{FrameReadsBack}
 use Rattle.guarantees.proofs.Second.{second_property}
+use Rattle.guarantees.proofs.Frames.RoundTrip.{was_written}
 use Rattle.roundtrip.specs.declared.RoundTripError.{RoundTripError}
 use Rattle.roundtrip.specs.declared.RoundTripError.TheVariants.{NotRead}
 use Rattle.roundtrip.specs.Returns.{Returned, returned}
@@ -67,25 +69,25 @@ reads_back : (m : FrameMethod) → FrameReadsBack (parameters_of m)
 reads_back Cyclic16 = second_property.frame_reads_back_5
 reads_back Cyclic32 = second_property.frame_reads_back_6
 
-whole : (content : List ℕ) → Bytes content → bytes_for (length (bits_of content)) ≡ length content
-whole content b = sym (length-pack (bits_of content)) ∙ ap length (pack-bits_of content b)
-
 -- ---- the calls
 
-module _ (m : FrameMethod) (content frame out : List ℕ) where
+module _ (m : FrameMethod) (claimed : ℕ) (lent frame out : List ℕ) where
   abbrev rule : writing.WriteAnswer
-  rule = writing.write_frame (parameters_of m) content (length frame)
+  rule = writing.write_frame (parameters_of m) claimed lent (length frame)
 
   abbrev back : ReadAnswer
-  back = frame_back content (length out)
+  back = frame_back claimed lent (length out)
+
+  abbrev content : List Bool
+  content = take claimed (bits_of lent)
 
   -- what write_frame ensures
   abbrev Writes : Result ℕ WriteRefusal → List ℕ → Type 0
-  Writes w frame₁ = called (of_written w) frame₁ ≡ write_call m content frame
+  Writes w frame₁ = called (of_written w) frame₁ ≡ write_call m claimed lent frame
 
   -- what the function ensures
   abbrev Returns : Result Bool (RoundTripError WriteRefusal ReadRefusal) → List ℕ → List ℕ → Type 0
-  Returns r frame₁ out₁ = returned (of_frame_return r) frame₁ out₁ ≡ frame_returns (parameters_of m) content frame out
+  Returns r frame₁ out₁ = returned (of_frame_return r) frame₁ out₁ ≡ frame_returns (parameters_of m) claimed lent frame out
 
   -- the first bits are the frame
   pub record WrittenFrame (n : ℕ) (frame₁ : List ℕ) : Type 0 where
@@ -106,54 +108,60 @@ module _ (m : FrameMethod) (content frame out : List ℕ) where
   abbrev Reads : ℕ → List ℕ → Result ℕ ReadRefusal → List ℕ → Type 0
   Reads n l r out₁ = called (of_read r) out₁ ≡ read_call m n l out
 
-  pub record TakenBack (bytes : ℕ) (out₁ : List ℕ) : Type 0 where
-    pub fits : leb (length content) (length out) ≡ true
-    pub room : length content ≤ length out₁
-    pub equal : ContentOf content bytes out₁
+  pub record TakenBack (read : ℕ) (out₁ : List ℕ) : Type 0 where
+    pub fits : leb (bytes_for claimed) (length out) ≡ true
+    pub enough : claimed ≤ 8 * length lent
+    pub room : bytes_for claimed ≤ length out₁
+    pub equal : ContentOf claimed lent read out₁
 
-  module _ (cb : Bytes content) {n : ℕ} {frame₁ : List ℕ} (w : WrittenFrame n frame₁) (r : Result ℕ ReadRefusal) {out₁ : List ℕ} (h : Reads n frame₁ r out₁) where
+  module _ {n : ℕ} {frame₁ : List ℕ} (w : WrittenFrame n frame₁) (r : Result ℕ ReadRefusal) {out₁ : List ℕ} (h : Reads n frame₁ r out₁) where
     abbrev answered : Bool → ReadAnswer
-    answered fits = cond fits (taken (bits_of content)) (refusal 38 (length content))
+    answered fits = cond fits (taken content) (refusal 38 (bytes_for claimed))
+
+    length-content : length content ≡ claimed
+    length-content = (was_written (parameters_of m) claimed lent w.bits (length frame) w.by_rule).length-content
 
     read_back : read_frame (parameters_of m) n frame₁ (length out) ≡ back
     read_back =
         ap (λ k. read_frame (parameters_of m) k frame₁ (length out)) w.size
         ∙ ap (λ l. read_frame (parameters_of m) (length w.bits) l (length out)) w.bytes
-        ∙ other_room (parameters_of m) (length w.bits) (pack w.bits ++ drop (bytes_for (length w.bits)) frame) (length content) (length out) (bits_of content)
-        (reads_back m content w.bits (length frame) (length content) (drop (bytes_for (length w.bits)) frame) w.by_rule (omega arith))
-        ∙ ap (λ k. cond (leb k (length out)) (taken (bits_of content)) (refusal 38 k)) (whole content cb)
+        ∙ other_room (parameters_of m) (length w.bits) (pack w.bits ++ drop (bytes_for (length w.bits)) frame) (bytes_for claimed) (length out) content
+        (reads_back m claimed lent w.bits (length frame) (bytes_for claimed) (drop (bytes_for (length w.bits)) frame) w.by_rule (omega arith))
+        ∙ ap (λ k. cond (leb (bytes_for k) (length out)) (taken content) (refusal 38 (bytes_for k))) length-content
 
     back_is : called (of_read r) out₁ ≡ after_reading back out
     back_is = h ∙ ap (λ z. after_reading z out) read_back
 
     -- where the frame was written, of the answer that reading it back gives
     of_written_lem : {answer : Returned} → answer ≡ frame_answer (writing.written w.bits) back → frame₁ ≡ writing.write_output rule frame
-        → returned answer frame₁ out₁ ≡ frame_returns (parameters_of m) content frame out
+        → returned answer frame₁ out₁ ≡ frame_returns (parameters_of m) claimed lent frame out
     of_written_lem a l =
         joined (a ∙ ap (λ z. frame_answer z back) (sym w.by_rule)) l
         (ap (λ c. c.output) back_is ∙ ap (λ z. frame_output z back out) (sym w.by_rule))
 
-    pub taken_back : {bytes : ℕ} → r ≡ Ok bytes → TakenBack bytes out₁
+    pub taken_back : {read : ℕ} → r ≡ Ok read → TakenBack read out₁
     unfolding read_output
-    taken_back {bytes} q = go (leb (length content) (length out)) refl (sym (ap of_read q) ∙ ap (λ c. c.answer) back_is) (ap (λ c. c.output) back_is)
+    taken_back {read} q = go (leb (bytes_for claimed) (length out)) refl (sym (ap of_read q) ∙ ap (λ c. c.answer) back_is) (ap (λ c. c.output) back_is)
       where
-        go : (fits : Bool) → leb (length content) (length out) ≡ fits → of_read (Ok bytes) ≡ of_read_answer (answered fits)
-            → out₁ ≡ read_output (answered fits) out → TakenBack bytes out₁
+        go : (fits : Bool) → leb (bytes_for claimed) (length out) ≡ fits → of_read (Ok read) ≡ of_read_answer (answered fits)
+            → out₁ ≡ read_output (answered fits) out → TakenBack read out₁
         go false t g o = let z : ◌≡◌ {A = ℕ} 0 1 = cc in absurd (omega arith)
         go true t g o =
-            let starts : out₁ ≡ content ++ drop (bytes_for (length (bits_of content))) out = o ∙ ap (λ z. z ++ drop (bytes_for (length (bits_of content))) out) (pack-bits_of content cb) in
-            let size : bytes ≡ bytes_for (length (bits_of content)) = cc in
+            let rest = drop (bytes_for (length content)) out in
+            let size : read ≡ length content = cc in
+            let n : length (pack content) ≡ bytes_for claimed = length-pack content ∙ ap bytes_for length-content in
+            let starts : take claimed (bits_of out₁) ≡ content =
+            ap₂ (λ k l. take k (bits_of l)) (sym length-content) o ∙ ap (take (length content)) (bits_of-append (pack content) rest)
+            ∙ take-append-le (length content) (bits_of (pack content)) (bits_of rest) (omega (arith, length-bits_of (pack content), length-pack content))
+            ∙ take-bits_of-pack content in
             record {
               fits = t;
-              room = omega (arith, ap length starts, length-append content (drop (bytes_for (length (bits_of content))) out));
-              equal =
-                  record {
-                    content-length = size ∙ whole content cb;
-                    bytes_read = ap (take (length content)) starts ∙ take_at content _ (length content) refl;
-                  };
+              enough = omega (arith, length-content, length-take claimed (bits_of lent), length-bits_of lent);
+              room = omega (arith, ap length o, length-append (pack content) rest, n);
+              equal = record { as_many = size ∙ length-content; bits_read = starts };
             }
 
-    pub taken_returns : {bytes : ℕ} → r ≡ Ok bytes → {equal : Bool} → (ContentOf content bytes out₁ → equal ≡ true) → frame₁ ≡ writing.write_output rule frame → Returns (Ok equal) frame₁ out₁
+    pub taken_returns : {read : ℕ} → r ≡ Ok read → {equal : Bool} → (ContentOf claimed lent read out₁ → equal ≡ true) → frame₁ ≡ writing.write_output rule frame → Returns (Ok equal) frame₁ out₁
     taken_returns q decided l =
         let t = taken_back q in
         of_written_lem
@@ -161,7 +169,7 @@ module _ (m : FrameMethod) (content frame out : List ℕ) where
         l
 
     pub refused_returns : {x : ReadRefusal} → r ≡ Err x → frame₁ ≡ writing.write_output rule frame → Returns (Err (NotRead x)) frame₁ out₁
-    refused_returns {x} q l = of_written_lem (go (leb (length content) (length out)) (sym (ap of_read q) ∙ ap (λ c. c.answer) back_is)) l
+    refused_returns {x} q l = of_written_lem (go (leb (bytes_for claimed) (length out)) (sym (ap of_read q) ∙ ap (λ c. c.answer) back_is)) l
       where
         go : (fits : Bool) → of_read (Err x) ≡ of_read_answer (answered fits)
             → of_frame_return (Err (NotRead x)) ≡ frame_answer (writing.written w.bits) (answered fits)

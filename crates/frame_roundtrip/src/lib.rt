@@ -16,17 +16,18 @@ use roundtrip::RoundTripError;
 
 mod compare;
 
-// Writes a frame into `frame`, reads it back into `out`, and answers whether the content came back. The contract shuts out that
-// another one did.
+// Writes a frame of the content's first `bits` bits into `frame`, reads it back into `out`, and answers whether the content came back.
+// The contract shuts out that another one did.
 pub fn frame_returns(
     method: FrameMethod,
+    bits: usize,
     content: &[u8],
     frame: &mut [u8],
     out: &mut [u8],
 ) -> Result<bool, RoundTripError<WriteRefusal, ReadRefusal>>
-    ensures { returned (of_frame_return result) frame.new out.new ≡ frame_returns (parameters_of method) content.now frame.old out.old }
+    ensures { returned (of_frame_return result) frame.new out.new ≡ frame_returns (parameters_of method) bits content.now frame.old out.old }
 {
-    let bits = write_frame(method, content, &mut *frame).map_err(RoundTripError::NotWritten)?;
-    let bytes = read_frame(method, bits, frame, &mut *out).map_err(RoundTripError::NotRead)?;
-    Ok(same_content(bytes, content, out))
+    let told = write_frame(method, bits, content, &mut *frame).map_err(RoundTripError::NotWritten)?;
+    let read = read_frame(method, told, frame, &mut *out).map_err(RoundTripError::NotRead)?;
+    Ok(same_content(read, bits, content, out))
 }
