@@ -28,7 +28,7 @@ pub fn frame_read(read: Result<usize, ReadRefusal>) -> ValueNumbers
     ensures { result ≡ frame_numbers (of_read read) }
 {
     match read {
-        Ok(bits) => numbers(0, bits),
+        Ok(content) => numbers(0, content),
         Err(refusal) => read_refusal(refusal),
     }
 }
