@@ -1,6 +1,6 @@
 // The generator x^16 + x^12 + x^5 + 1, of methods 3 and 5: how a byte, its lowest bits and a word enter its register, without a table,
-// and how a word is folded. Every function but `enter_bits` takes every input, and its contract gives the register bit by bit, by the
-// rule of crate `registers`.
+// and how a word is folded. Every function takes every input, and its contract gives the register bit by bit, by the rule of
+// crate `registers`; that of `enter_bits` speaks of eight bits at most.
 #![tactic(auto)]
 
 ghost use Rattle.std.specs.Prelude.{◌≡◌, ◌≤◌};
@@ -16,10 +16,10 @@ impl Ccitt16 {
     // The k lowest bits of a byte, eight at most, entered alone: they meet as many bits of the register, which enter an empty one as the
     // last of a byte whose first bits are zeros, and the rest of the register moves down.
     pub fn enter_bits(register: u16, byte: u8, k: u32) -> u16
-        requires { k ≤ 8 }
-        ensures { low_bits 16 result ≡ enter ccitt16 (low_bits 16 register) (low_bits k byte) }
+        ensures { k ≤ 8 → low_bits 16 result ≡ enter ccitt16 (low_bits 16 register) (low_bits k byte) }
     {
-        let last = ((register ^ (byte as u16)) << (8 - k)) & 255;
+        let k = k & 15;
+        let last = (((register ^ (byte as u16)) << 8) >> k) & 255;
         Self::enter_byte(last, 0) ^ (register >> k)
     }
 }

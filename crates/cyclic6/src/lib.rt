@@ -33,8 +33,7 @@ impl Cyclic6 {
     // The register after the k lowest bits of a byte, eight at most.
     #[tactic(auto, unfolding(cyclic::specs::Check::method6))]
     pub fn enter_bits(self, byte: u8, k: u32) -> Self
-        requires { k ≤ 8 }
-        ensures { low_bits 32 result.register ≡ enter method6.generator (low_bits 32 self.register) (low_bits k byte) }
+        ensures { k ≤ 8 → low_bits 32 result.register ≡ enter method6.generator (low_bits 32 self.register) (low_bits k byte) }
     {
         Self {
             register: Ieee32::enter_bits(self.register, byte, k),

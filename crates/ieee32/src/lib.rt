@@ -1,6 +1,6 @@
 // The generator of degree 32, of method 6: how a byte, its lowest bits and a word enter its register, without a table, and how a word is
-// folded. Every function but `enter_bits` takes every input, and its contract gives the register bit by bit, by the rule of crate
-// `registers`.
+// folded. Every function takes every input, and its contract gives the register bit by bit, by the rule of crate `registers`; that of
+// `enter_bits` speaks of eight bits at most.
 #![tactic(auto)]
 
 ghost use Rattle.std.specs.Prelude.{◌≡◌, ◌≤◌};
@@ -42,10 +42,10 @@ pub struct Ieee32;
 impl Ieee32 {
     // The k lowest bits of a byte, eight at most, entered alone, as those of method 5.
     pub fn enter_bits(register: u32, byte: u8, k: u32) -> u32
-        requires { k ≤ 8 }
-        ensures { low_bits 32 result ≡ enter ieee32 (low_bits 32 register) (low_bits k byte) }
+        ensures { k ≤ 8 → low_bits 32 result ≡ enter ieee32 (low_bits 32 register) (low_bits k byte) }
     {
-        let last = ((register ^ (byte as u32)) << (8 - k)) & 255;
+        let k = k & 15;
+        let last = (((register ^ (byte as u32)) << 8) >> k) & 255;
         Self::enter_byte(last, 0) ^ (register >> k)
     }
 }

@@ -2,13 +2,13 @@
 -- Assumes nothing.
 use mathlib.Core.Path.{◌≡◌, sym, ap, ap₂, subst, ◌∙◌}
 use Prim.Native.Nat.{ℕ, ◌+◌, ◌-◌, ◌*◌, ◌/◌, ◌%◌, ◌^◌, ◌<◌, ◌≤◌}
-use native.Mathlib.Nat.{mod-lt, mul-mod_left, add_comm, add-zero, div-eq_of_lt}
+use native.Mathlib.Nat.{mod-lt, mul-mod_left, add_comm, add-zero, div-eq_of_lt, mul_assoc, mod-eq_of_lt}
 use native.Mathlib.Omega.{arith}
 use mathlib.Core.Bool.{Bool}
 use mathlib.Core.List.{List, ◌++◌}
 use lib.Bits.{bit_and, bit_xor, xor_lt}
 use lib.ListN.{length, drop, get_or, length-drop, take-append-drop}
-use lib.Pow.{pow_pos, pow_mono, mod-pow-add, mod-mod-pow, shl-shr, shr_le}
+use lib.Pow.{pow_pos, pow_mono, pow-add, mod-pow-add, mod-mod-pow, shl-shr, shr_le}
 use Rattle.std.proofs.lemmas.Nat.{and_mask}
 use Rattle.bits.specs.Strings.{xor_bits, zeros}
 use Rattle.bits.specs.Bytes.{low_bits, bits_of, value, pack_into}
@@ -26,11 +26,23 @@ shl_mod : (n k i : ℕ) → n * 2 ^ i % 2 ^ (k + i) ≡ n % 2 ^ k * 2 ^ i
 shl_mod n k i =
     mod-pow-add (n * 2 ^ i) k i ∙ ap₂ (λ a b. a % 2 ^ k * 2 ^ i + b) (shl-shr n i) (mul-mod_left n (2 ^ i)) ∙ add-zero (n % 2 ^ k * 2 ^ i)
 
--- as code moves it up, in a register of 8 + i bits, and takes the byte
-pub shl_byte : (i n k : ℕ) → k ≤ 8 → bit_and (n * 2 ^ (8 - k) % 2 ^ (i + 8)) 255 ≡ n % 2 ^ k * 2 ^ (8 - k)
-shl_byte i n k few =
+-- as code has the low bits last in a byte, in a register of i + 8 bits: moved up by a byte and down by k
+pub last_in_byte : (i n k : ℕ) → 8 ≤ i → k ≤ 8 → bit_and (n * 256 % 2 ^ (i + 8) / 2 ^ k) 255 ≡ n % 2 ^ k * 2 ^ (8 - k)
+last_in_byte i n k wide few =
     let e : 8 ≡ k + (8 - k) = omega arith in
-    and_mask (n * 2 ^ (8 - k) % 2 ^ (i + 8)) 8 ∙ mod-mod-pow (n * 2 ^ (8 - k)) i 8 ∙ ap (λ m. n * 2 ^ (8 - k) % 2 ^ m) e ∙ shl_mod n k (8 - k)
+    let up : 8 ≡ 8 - k + k = omega arith in
+    let j : i ≡ i - k + k = omega arith in
+    let low = n % 2 ^ i in
+    and_mask (n * 256 % 2 ^ (i + 8) / 2 ^ k) 8
+    ∙ ap (λ m. m / 2 ^ k % 256) (shl_mod n i 8)
+    ∙ ap (λ m. m / 2 ^ k % 256) (ap (λ m. low * 2 ^ m) up ∙ ap (λ m. low * m) (pow-add 2 (8 - k) k) ∙ sym (mul_assoc low (2 ^ (8 - k)) (2 ^ k)))
+    ∙ ap (λ m. m % 256) (shl-shr (low * 2 ^ (8 - k)) k)
+    ∙ ap (λ m. low * 2 ^ (8 - k) % 2 ^ m) e ∙ shl_mod low k (8 - k)
+    ∙ ap (λ m. m * 2 ^ (8 - k)) (ap (λ m. n % 2 ^ m % 2 ^ k) j ∙ mod-mod-pow n (i - k) k)
+
+-- and how many there are
+pub few_bits : (k : ℕ) → k ≤ 8 → bit_and k 15 ≡ k
+few_bits k few = and_mask k 4 ∙ mod-eq_of_lt (omega (arith, few))
 
 -- behind i zeros, k bits go through as alone
 behind_zeros : (i k j : ℕ) (p : List Bool) (x : ℕ) → x < 2 ^ k

@@ -16,10 +16,10 @@ pub fn enter_byte(table: &[u32; 256], register: u32, byte: u8) -> u32
 
 // The k lowest bits of a byte, eight at most, entered alone.
 pub fn enter_bits(table: &[u32; 256], register: u32, byte: u8, k: u32) -> u32
-    requires { k ≤ 8 }
-    ensures { result ≡ enter_bits_by_table table.now register byte k }
+    ensures { k ≤ 8 → result ≡ enter_bits_by_table table.now register byte k }
 {
-    let at = ((register ^ (byte as u32)) << (8 - k)) & 255;
+    let k = k & 15;
+    let at = (((register ^ (byte as u32)) << 8) >> k) & 255;
     table[at as usize] ^ (register >> k)
 }
 

@@ -21,15 +21,14 @@ returns-in_err-left c =
     let made : c.in_err-left.field-0.0 ≡ zero_missing_at (8 * (a.self.end / 8) + m.0.0) = search (m.2, rules) in
     ap of_walk (p.1 ∙ ap Err (p.2 ∙ made)) ∙ last_missing a.table.now a.register a.count a.r a.self.lent.now a.self.end a.self.closed lacks
 
-pub enter_bits-requires : goal.enter_bits-requires
-enter_bits-requires c = omega (arith, c.if-left-lt8.true)
-
 pub returns-then-left-lt8 : goal.returns-then-left-lt8
 returns-then-left-lt8 c =
     let a = c.args in
-    last_part a.table.now a.register a.count a.r a.self.lent.now a.self.end a.self.closed (subst (ReadsLast a.r (get_or a.self.lent.now (a.self.end / 8) 0) (a.self.end % 8)) (value_kept _ c.read_last.result c.map_err.ensures.cases c.in_ok-left.was) (c.read_last.ensures c.requires.0 (omega arith))) c.if-left-lt8.true c.enter_bits.ensures
+    last_part a.table.now a.register a.count a.r a.self.lent.now a.self.end a.self.closed (subst (ReadsLast a.r (get_or a.self.lent.now (a.self.end / 8) 0) (a.self.end % 8)) (value_kept _ c.read_last.result c.map_err.ensures.cases c.in_ok-left.was) (c.read_last.ensures c.requires.0 (omega arith))) c.if-left-lt8.true (c.enter_bits.ensures (omega (arith, c.if-left-lt8.true)))
 
 pub returns : goal.returns
 returns c =
     let a = c.args in
-    last_byte a.table.now a.register a.count a.r a.self.lent.now a.self.end a.self.closed (subst (ReadsLast a.r (get_or a.self.lent.now (a.self.end / 8) 0) (a.self.end % 8)) (value_kept _ c.read_last.result c.map_err.ensures.cases c.in_ok-left.was) (c.read_last.ensures c.requires.0 (omega arith))) c.if-left-lt8.false c.enter_byte-whole.ensures c.enter_bits-2.ensures
+    let found = subst (ReadsLast a.r (get_or a.self.lent.now (a.self.end / 8) 0) (a.self.end % 8)) (value_kept _ c.read_last.result c.map_err.ensures.cases c.in_ok-left.was) (c.read_last.ensures c.requires.0 (omega arith)) in
+    last_byte a.table.now a.register a.count a.r a.self.lent.now a.self.end a.self.closed found c.if-left-lt8.false c.enter_byte-whole.ensures
+    (c.enter_bits-2.ensures (omega (arith, found.below, found.holds.counted)))

@@ -1,17 +1,23 @@
 -- `Ieee32::enter_bits` meets its contract: the bits go through as the last of a byte. Assumes nothing.
-use mathlib.Core.Path.{ap, ◌∙◌}
+use mathlib.Core.Path.{◌≡◌, ap, ◌∙◌}
+use Prim.Native.Nat.{◌*◌, ◌/◌, ◌%◌, ◌^◌, ◌-◌}
 use native.Mathlib.Omega.{arith}
-use lib.Bits.{bit_xor}
+use lib.Bits.{bit_and, bit_xor}
 use Rattle.bits.specs.Bytes.{low_bits}
 use Rattle.division.specs.Generators.{ieee32}
 use Rattle.division.proofs.Generators.{ieee32_generator}
 use Rattle.registers.specs.Register.{enter}
-use Rattle.registers.proofs.Bits.{shl_byte, bits_through}
+use Rattle.registers.proofs.Bits.{last_in_byte, few_bits, bits_through}
 use Rattle.ieee32.proofs.Ieee32.enter_bits.Goals as goal
 
 pub returns : goal.returns
-returns c =
+returns c few =
     let a = c.args in
-    let last = shl_byte 24 (bit_xor a.register a.byte) a.k c.requires in
-    bits_through 24 ieee32 ieee32_generator.width a.register a.byte a.k (omega arith) c.requires c.enter_byte.result
+    let x = bit_xor a.register a.byte in
+    let k = few_bits a.k few in
+    let last : bit_and (x * 256 % 4294967296 / 2 ^ bit_and a.k 15) 255 ≡ x % 2 ^ a.k * 2 ^ (8 - a.k) =
+    ap (λ k. bit_and (x * 256 % 4294967296 / 2 ^ k) 255) k ∙ last_in_byte 24 x a.k (omega arith) few in
+    let alone = c.enter_byte.result in
+    ap (λ k. low_bits 32 (bit_xor alone (a.register / 2 ^ k))) k
+    ∙ bits_through 24 ieee32 ieee32_generator.width a.register a.byte a.k (omega arith) few alone
     (c.enter_byte.ensures ∙ ap (λ n. enter ieee32 (low_bits 32 n) (low_bits 8 0)) last)
