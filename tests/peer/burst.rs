@@ -51,7 +51,7 @@ pub fn run() {
         .into_iter()
         .flat_map(|bits| CONTENTS.map(|n| (bits, n)))
     {
-        let name = |method| format!("method {method}, {bits} bits of {number:04X}");
+        let name = |method| format!("method {method}, the first {bits} of {number:04X}");
         every(&name(5), &numbered(5, bits, number), 16);
         let specimen = numbered(6, bits, number);
         every(&name(6), &specimen, 16);

@@ -31,8 +31,8 @@ pub fn run() {
                 }
             }
         }
-        one.print(&format!("method {method}, {bits} bits, one flipped"));
-        two.print(&format!("method {method}, {bits} bits, two flipped"));
+        one.print(&format!("method {method}, {bits} of content, one flipped"));
+        two.print(&format!("method {method}, {bits} of content, two flipped"));
         assert_eq!(one.same_framing + two.same_framing, 0);
     }
     println!("every two frames of one framing and 1 to {LONGEST} content bits");
