@@ -238,11 +238,11 @@ uint32_t corridor_read_frame(uint8_t method, size_t bits,
  * Writes one frame: flag, content, check, flag, with the zeros inserted.
  *
  *   method       5 or 6
- *   bits         how many bits of content are sent, the low bit of each byte
- *                first: 1 to 32,768 (method 5) or 524,288 (method 6). n whole
- *                bytes are 8 * n bits
- *   content      the bytes that hold them. Bits of the last of these above
- *                those claimed are ignored, and so are the bytes behind it
+ *   bits         how many bits of content are claimed, the low bit of each
+ *                byte first: 1 to 32,768 (method 5) or 524,288 (method 6). For n
+ *                whole bytes it is 8 * n
+ *   content      the bytes that hold them. Bits of the last content byte above
+ *                the claimed ones are ignored, and so are bytes behind it
  *   out          takes the frame; spare high bits of its last byte are zero
  *
  * Returns 0:     *value is the number of bits of the frame; they take
