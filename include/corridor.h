@@ -239,8 +239,8 @@ uint32_t corridor_read_frame(uint8_t method, size_t bits,
  *
  *   method       5 or 6
  *   bits         how many bits of content are claimed, the low bit of each
- *                byte first: 1 to 32,768 (method 5) or 524,288 (method 6). For n
- *                whole bytes it is 8 * n
+ *                byte first: 1 to 32,768 (method 5) or 524,288 (method 6). n
+ *                whole bytes are 8 * n bits
  *   content      the bytes that hold them. Bits of the last content byte above
  *                the claimed ones are ignored, and so are bytes behind it
  *   out          takes the frame; spare high bits of its last byte are zero
