@@ -31,8 +31,8 @@ pub fn run(judge: &mut Judge, random: &mut Random) {
 /// around what is not measured, and read back with outputs around its length.
 /// Gives the bits of the frame and their number.
 fn both_ways(judge: &mut Judge, method: u8, claimed: usize, content: &[u8]) -> (Vec<u8>, usize) {
-    let bytes = claimed.div_ceil(8);
-    let most = bytes + bytes / 4 + 16;
+    let whole = claimed / 8;
+    let most = whole + whole / 4 + 16;
     for room in most - 1..=most + 1 {
         judge.write_frame(method, claimed, content, Room::Bytes(room));
     }
