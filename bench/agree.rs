@@ -73,10 +73,10 @@ impl Agreement<'_> {
         });
     }
 
-    fn write_frame(&mut self, method: u8, content: &[u8], room: usize) {
-        let what = || format!("write_frame {method} {content:02X?}");
+    fn write_frame(&mut self, method: u8, claimed: usize, content: &[u8], room: usize) {
+        let what = || format!("write_frame {method} {claimed} {content:02X?}");
         self.same(&what, room, &|calls, out, values| {
-            calls.write_frame(method, content, out, &mut values[0])
+            calls.write_frame(method, claimed, content, out, &mut values[0])
         });
     }
 
@@ -251,8 +251,11 @@ impl Agreement<'_> {
         let method = 4 + random.below(4) as u8;
         let content = frames::content(random, longest);
         self.checks(&content);
-        self.write_frame(method, &content, room(random, longest));
-        let sound = frames::sealed(method, &bits::of_bytes(&content));
+        let claimed = frames::claimed(random, content.len());
+        self.write_frame(method, claimed, &content, room(random, longest));
+        let mut sound = bits::of_bytes(&content);
+        sound.truncate(claimed);
+        let sound = frames::sealed(method, &sound);
         let lent = bits::to_bytes(&sound);
         self.read_frame(method, sound.len(), &lent, room(random, longest));
         let line = frames::line(random, method, &content);
@@ -288,11 +291,15 @@ impl Agreement<'_> {
             let line = lines::sealed(link, [&[STX][..], &vec![SYN; length - 4], &[US]].concat());
             self.read_block(3, 0, &line, 4);
         }
-        for (method, length) in [(5, 4_096), (5, 4_097), (6, 65_536), (6, 65_537)] {
-            let content = random.bytes(length);
-            self.write_frame(method, &content, length * 2);
-            let sound = frames::sealed(method, &bits::of_bytes(&content));
-            self.read_frame(method, sound.len(), &bits::to_bytes(&sound), length);
+        for (method, longest) in [(5, 32_768_usize), (6, 524_288)] {
+            for claimed in longest - 1..=longest + 1 {
+                let length = claimed.div_ceil(8);
+                let content = random.bytes(length);
+                self.write_frame(method, claimed, &content, length * 2);
+                self.write_frame(method, claimed, &content[1..], length * 2);
+                let sound = frames::sealed(method, &bits::of_bytes(&content)[..claimed]);
+                self.read_frame(method, sound.len(), &bits::to_bytes(&sound), length);
+            }
         }
     }
 }

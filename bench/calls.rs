@@ -10,9 +10,8 @@ type WriteBlock = unsafe extern "C" fn(
     u8, u8, u8, u8, u8, *const u8, usize,
     *const u8, usize, *mut u8, usize, *mut usize,
 ) -> u32;
-type ReadFrame =
-    unsafe extern "C" fn(u8, usize, *const u8, usize, *mut u8, usize, *mut usize) -> u32;
-type WriteFrame = unsafe extern "C" fn(u8, *const u8, usize, *mut u8, usize, *mut usize) -> u32;
+type Frame = unsafe extern "C" fn(u8, usize, *const u8, usize, *mut u8, usize, *mut usize) -> u32;
+type Fixed = unsafe extern "C" fn(u8, *const u8, usize, *mut u8, usize, *mut usize) -> u32;
 type Receive = unsafe extern "C" fn(u8, u8, u8, u8, *mut u8) -> u32;
 #[rustfmt::skip]
 type Submit = unsafe extern "C" fn(
@@ -36,16 +35,16 @@ pub struct Calls {
     pub name: &'static str,
     read_block: ReadBlock,
     write_block: WriteBlock,
-    read_frame: ReadFrame,
-    write_frame: WriteFrame,
+    read_frame: Frame,
+    write_frame: Frame,
     receive: Receive,
     submit: Submit,
     acknowledge: Acknowledge,
     interleave: Interleave,
     deinterleave: Interleave,
     replay_panel: ReplayPanel,
-    write_fixed: WriteFrame,
-    read_fixed: WriteFrame,
+    write_fixed: Fixed,
+    read_fixed: Fixed,
     check_3: Check16,
     check_4: Check16,
     check_5: Check16,
@@ -102,7 +101,7 @@ macro_rules! by_slices {
 impl Calls {
     by_slices! { read_block(method: u8, parity: u8, code: u8; line) [usize; 5] }
     by_slices! { read_frame(method: u8, bits: usize; lent) usize }
-    by_slices! { write_frame(method: u8; content) usize }
+    by_slices! { write_frame(method: u8, bits: usize; content) usize }
     by_slices! { write_fixed(degree: u8; content) usize }
     by_slices! { read_fixed(degree: u8; block) usize }
 
@@ -245,7 +244,7 @@ macro_rules! linked {
             fn $write_block(_: u8, _: u8, _: u8, _: u8, _: u8, _: *const u8, _: usize,
                 _: *const u8, _: usize, _: *mut u8, _: usize, _: *mut usize) -> u32;
             fn $read_frame(_: u8, _: usize, _: *const u8, _: usize, _: *mut u8, _: usize, _: *mut usize) -> u32;
-            fn $write_frame(_: u8, _: *const u8, _: usize, _: *mut u8, _: usize, _: *mut usize) -> u32;
+            fn $write_frame(_: u8, _: usize, _: *const u8, _: usize, _: *mut u8, _: usize, _: *mut usize) -> u32;
             fn $receive(_: u8, _: u8, _: u8, _: u8, _: *mut u8) -> u32;
             fn $submit(_: u8, _: u8, _: *mut Station, _: *mut u8, _: usize,
                 _: *const u8, _: usize, _: *mut usize) -> u32;

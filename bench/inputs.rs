@@ -124,28 +124,32 @@ pub fn write_block(random: &mut Random, kind: (u8, u8), length: usize) -> Case {
     })
 }
 
-/// The bytes that a frame takes at most.
-fn frame_bytes(method: u8, content: usize) -> usize {
+/// The bytes that a frame of so many content bits takes at most.
+fn frame_bytes(method: u8, claimed: usize) -> usize {
     let method = match method {
         5 => FrameMethod::Cyclic16,
         _ => FrameMethod::Cyclic32,
     };
-    longest_frame(method, content).div_ceil(8)
+    longest_frame(method, claimed).div_ceil(8)
 }
 
-/// A sound frame around a content: its bits and their number.
-fn sound_frame(method: u8, content: &[u8]) -> (Vec<u8>, usize) {
-    let (mut lent, mut bits) = (vec![0; frame_bytes(method, content.len())], 0);
+/// A sound frame around so many bits of a content: its bits and their number.
+fn sound_frame(method: u8, claimed: usize, content: &[u8]) -> (Vec<u8>, usize) {
+    let (mut lent, mut bits) = (vec![0; frame_bytes(method, claimed)], 0);
     assert_eq!(
-        LIBRARY.write_frame(method, content, &mut lent, &mut bits),
+        LIBRARY.write_frame(method, claimed, content, &mut lent, &mut bits),
         0
     );
     lent.truncate(bits.div_ceil(8));
     (lent, bits)
 }
 
-pub fn read_frame(random: &mut Random, method: u8, length: usize) -> Case {
-    let frames = several(length, || sound_frame(method, &random.bytes(length)));
+/// Frames of so many content bytes, of which the last lacks some bits.
+pub fn read_frame(random: &mut Random, (method, lacking): (u8, usize), length: usize) -> Case {
+    let claimed = 8 * length - lacking;
+    let frames = several(length, || {
+        sound_frame(method, claimed, &random.bytes(length))
+    });
     let (mut out, mut value) = (vec![0; length], 0);
     for (lent, bits) in &frames {
         assert_eq!(
@@ -159,11 +163,13 @@ pub fn read_frame(random: &mut Random, method: u8, length: usize) -> Case {
     })
 }
 
-pub fn write_frame(random: &mut Random, method: u8, length: usize) -> Case {
+/// Contents of so many bytes, of which the last lacks some bits.
+pub fn write_frame(random: &mut Random, (method, lacking): (u8, usize), length: usize) -> Case {
+    let claimed = 8 * length - lacking;
     let contents = several(length, || random.bytes(length));
-    let (mut out, mut value) = (vec![0; frame_bytes(method, length)], 0);
+    let (mut out, mut value) = (vec![0; frame_bytes(method, claimed)], 0);
     in_turn(contents, move |calls, content| {
-        black_box(calls.write_frame(method, content, &mut out, &mut value));
+        black_box(calls.write_frame(method, claimed, content, &mut out, &mut value));
         black_box((&out, &value));
     })
 }

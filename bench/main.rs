@@ -119,21 +119,22 @@ fn blocks(random: &mut Random, word: &str) -> Table {
 }
 
 fn frames_of(random: &mut Random, word: &str) -> Table {
-    let methods: [(u8, &[usize]); 2] = [(5, &SHORT), (6, &LONG)];
+    let kinds: [(u8, usize, &str, &[usize]); 4] = [
+        (5, 0, "method 5", &SHORT),
+        (5, 5, "method 5, without 5 bits", &SHORT),
+        (6, 0, "method 6", &LONG),
+        (6, 5, "method 6, without 5 bits", &LONG),
+    ];
     let mut rows = Rows::of(word);
-    for (method, lengths) in methods {
-        rows.add(
-            &format!("read_frame   method {method}"),
-            lengths,
-            |length| inputs::read_frame(random, method, length),
-        );
+    for (method, lacking, kind, lengths) in kinds {
+        rows.add(&format!("read_frame   {kind}"), lengths, |length| {
+            inputs::read_frame(random, (method, lacking), length)
+        });
     }
-    for (method, lengths) in methods {
-        rows.add(
-            &format!("write_frame  method {method}"),
-            lengths,
-            |length| inputs::write_frame(random, method, length),
-        );
+    for (method, lacking, kind, lengths) in kinds {
+        rows.add(&format!("write_frame  {kind}"), lengths, |length| {
+            inputs::write_frame(random, (method, lacking), length)
+        });
     }
     Table {
         title: "frames, by bytes of content",

@@ -69,14 +69,14 @@ call! { write_block(method: u8, parity: u8, code: u8, shape: u8, end_sign: u8; h
 
 call! { read_frame(method: u8, bits: usize; lent[lent_length]; out[room])
     match method {
-        5 | 6 => peer_fast::read_frame(method, bits, lent, out).map(|length| [length]),
+        5 | 6 => peer_fast::read_frame(method, bits, lent, out).map(|bits| [bits]),
         _ => Err(UNKNOWN_CODE),
     }
 }
 
-call! { write_frame(method: u8; content[content_length]; out[room])
+call! { write_frame(method: u8, claimed: usize; content[content_length]; out[room])
     match method {
-        5 | 6 => peer_fast::write_frame(method, content, out).map(|bits| [bits]),
+        5 | 6 => peer_fast::write_frame(method, claimed, content, out).map(|bits| [bits]),
         _ => Err(UNKNOWN_CODE),
     }
 }

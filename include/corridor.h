@@ -24,7 +24,9 @@
  *
  * COUNTS AND PLACES
  *   Places start at 0. The places of a block count bytes, those of a frame
- *   count bits in the order sent (the low bit of each byte first).
+ *   count bits in the order sent (the low bit of each byte first). The content
+ *   of a frame counts bits too, since it may end inside a byte: n whole bytes
+ *   of content are 8 * n bits.
  */
 #ifndef CORRIDOR_H
 #define CORRIDOR_H
@@ -91,8 +93,8 @@ extern "C" {
 /* Limits. */
 #define CORRIDOR_LONGEST_LINE 16384       /* bytes of a line that is read */
 #define CORRIDOR_LONGEST_COUNT 4096       /* counted bytes of a block */
-#define CORRIDOR_LONGEST_CONTENT_16 4096  /* content bytes, method 5 */
-#define CORRIDOR_LONGEST_CONTENT_32 65536 /* content bytes, method 6 */
+#define CORRIDOR_LONGEST_CONTENT_16 32768  /* content bits, method 5 */
+#define CORRIDOR_LONGEST_CONTENT_32 524288 /* content bits, method 6 */
 #define CORRIDOR_LONGEST_FIXED_8 16       /* bytes of a fixed block, its */
 #define CORRIDOR_LONGEST_FIXED_16 16      /* check included, by degree */
 #define CORRIDOR_LONGEST_FIXED_24 256
@@ -104,7 +106,7 @@ extern "C" {
 /*
  * Outputs that always suffice, so that a buffer can have its size when the
  * program is built. Proved as `lengths` in crates/guarantees/proofs; the field
- * of it stands beside each. Arguments are bytes.
+ * of it stands beside each. Arguments are bytes, those of frames bits.
  */
 /* Bytes of a line of plain text, or of a header alone, in any method (line). */
 #define CORRIDOR_LONGEST_PLAIN(header, text) ((header) + (text) + 5)
@@ -114,13 +116,11 @@ extern "C" {
 /* The same behind a header (line). */
 #define CORRIDOR_LONGEST_HEADER_CLEAR(header, text) \
     ((header) + 2 * (text) + 7)
-/* Bits of a frame of method 5 (frame_5, met_by_ff) and of method 6
- * (frame_6). */
-#define CORRIDOR_LONGEST_FRAME_16(content) \
-    (8 * (content) + 32 + (8 * (content) + 16) / 5)
-#define CORRIDOR_LONGEST_FRAME_32(content) \
-    (8 * (content) + 48 + (8 * (content) + 32) / 5)
-/* The bytes that so many bits take. */
+/* Bits of a frame with so many bits of content, of method 5 (frame_5,
+ * met_by_ff) and of method 6 (frame_6). n whole bytes are 8 * n bits. */
+#define CORRIDOR_LONGEST_FRAME_16(bits) ((bits) + 32 + ((bits) + 16) / 5)
+#define CORRIDOR_LONGEST_FRAME_32(bits) ((bits) + 48 + ((bits) + 32) / 5)
+/* The bytes that so many bits take, of a frame or of a content. */
 #define CORRIDOR_FRAME_BYTES(bits) (((bits) + 7) / 8)
 
 /*
@@ -210,9 +210,12 @@ uint32_t corridor_write_block(uint8_t method, uint8_t parity, uint8_t code,
  *   bits         how many bits of lent are the frame, both flags included;
  *                the rest of lent is ignored
  *   lent         the bytes that hold the frame, first bit sent in bit 0
- *   out          takes the content. As many bytes as lent always suffice
+ *   out          takes the content, first bit sent in bit 0. As many bytes as
+ *                lent always suffice
  *
- * Returns 0:     *value is the number of content bytes
+ * Returns 0:     *value is the number of content bits, n whole bytes being
+ *                8 * n. They take (*value + 7) / 8 bytes of out; spare high
+ *                bits of the last one are zero
  * Otherwise *value is the value named here (else 0):
  *    1  the method is neither 5 nor 6
  *   31  more bits told than lent
@@ -220,9 +223,8 @@ uint32_t corridor_write_block(uint8_t method, uint8_t parity, uint8_t code,
  *   33  between the flags, five ones are not followed by an inserted zero;
  *       place of the bit after them, in bits (the closing flag's first bit
  *       where the run ends there)
- *   34  what is left without the inserted zeros is no multiple of 8 bits
- *   35  there is no content byte
- *   36  the content is over 4,096 bytes (method 5) or 65,536 (method 6)
+ *   35  there is no content bit
+ *   36  the content is over 32,768 bits (method 5) or 524,288 (method 6)
  *   37  the check is wrong
  *   38  out is too short; bytes needed. The frame is sound: read it again
  *       with a longer output
@@ -236,18 +238,23 @@ uint32_t corridor_read_frame(uint8_t method, size_t bits,
  * Writes one frame: flag, content, check, flag, with the zeros inserted.
  *
  *   method       5 or 6
- *   content      1 to 4,096 bytes (method 5) or 65,536 (method 6)
+ *   bits         how many bits of content are claimed, the low bit of each
+ *                byte first: 1 to 32,768 (method 5) or 524,288 (method 6). n
+ *                whole bytes are 8 * n bits
+ *   content      the bytes that hold them. Bits of the last content byte above
+ *                the claimed ones are ignored, and so are bytes behind it
  *   out          takes the frame; spare high bits of its last byte are zero
  *
- * Returns 0:     *value is the number of bits; they take (*value + 7) / 8
- *                bytes of out
+ * Returns 0:     *value is the number of bits of the frame; they take
+ *                (*value + 7) / 8 bytes of out
  * Otherwise *value is the value named here (else 0):
  *    1  the method is neither 5 nor 6
- *   21  the content is empty
+ *   66  more bits claimed than the content bytes hold; asked before 21
+ *   21  no bit is claimed
  *   22  the content is over the method's limit
  *   23  out is too short; bytes needed
  */
-uint32_t corridor_write_frame(uint8_t method,
+uint32_t corridor_write_frame(uint8_t method, size_t bits,
                               const uint8_t *content, size_t content_length,
                               uint8_t *out, size_t out_length,
                               size_t *value);

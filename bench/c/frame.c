@@ -1,4 +1,5 @@
-/* Frames byte by byte: a table tells what a byte becomes behind a run of ones. */
+/* Frames byte by byte: a table tells what a byte becomes behind a run of ones. The last bits of a content that fill no byte
+ * go bit by bit. */
 #include "plain.h"
 #include "table.h"
 
@@ -58,10 +59,10 @@ void frame_init(void)
         }
 }
 
-/* What the two methods differ in. The remainder is that of a sound content with its check. */
+/* What the two methods differ in. The remainder is that of a sound content with its check; the longest content is in bits. */
 struct rule { const uint32_t *table; uint32_t ones, remainder; size_t check_bytes, longest; };
 
-static const struct rule rules[] = {{table_3, 0xffff, 0xf0b8, 2, 4096}, {table_6, 0xffffffff, 0xdebb20e3, 4, 65536}};
+static const struct rule rules[] = {{table_3, 0xffff, 0xf0b8, 2, 32768}, {table_6, 0xffffffff, 0xdebb20e3, 4, 524288}};
 
 /* Bits that wait to fill bytes. */
 struct bits { uint64_t held; unsigned count, run; };
@@ -74,7 +75,7 @@ static int is_flag(const uint8_t *lent, size_t at)
     return (two >> at % 8 & 255) == FLAG;
 }
 
-/* The last bits before the closing flag at `end`: question 33, and whether they fill a byte. */
+/* The last bits before the closing flag at `end`: question 33. */
 static uint32_t judge_last(const uint8_t *lent, size_t end, struct bits *b, size_t *value)
 {
     for (size_t at = end / 8 * 8; at < end; at++) {
@@ -94,7 +95,7 @@ static uint32_t judge_last(const uint8_t *lent, size_t end, struct bits *b, size
     return 0;
 }
 
-/* Questions 33 to 37; then *value is the number of content bytes. */
+/* Questions 33 to 37; then *value is the number of content bits. */
 static uint32_t judge(const struct rule *rule, const uint8_t *lent, size_t end, size_t *value)
 {
     struct bits b = {0, 0, 0};
@@ -118,24 +119,26 @@ static uint32_t judge(const struct rule *rule, const uint8_t *lent, size_t end, 
     uint32_t refusal = judge_last(lent, end, &b, value);
     if (refusal)
         return refusal;
+    size_t left = 8 * bytes + b.count;
     if (b.count >= 8) {
         reg = enter(rule->table, reg, (uint8_t)b.held);
-        bytes++;
+        b.held >>= 8;
     }
     if (b.count % 8)
-        return 34;
-    if (bytes <= rule->check_bytes)
+        reg = enter_low(rule->table, reg, (unsigned)b.held, b.count % 8);
+    if (left <= 8 * rule->check_bytes)
         return 35;
-    if (bytes - rule->check_bytes > rule->longest)
+    if (left - 8 * rule->check_bytes > rule->longest)
         return 36;
-    *value = bytes - rule->check_bytes;
+    *value = left - 8 * rule->check_bytes;
     return reg == rule->remainder ? 0 : 37;
 }
 
-/* The content of a sound frame; its check, at least two bytes, still stands behind it. */
-static void hand_out(const uint8_t *lent, uint8_t *out, size_t length)
+/* The content of a sound frame; its check, at least two bytes, still stands behind it, so that the last byte comes whole. */
+static void hand_out(const uint8_t *lent, uint8_t *out, size_t claimed)
 {
     struct bits b = {0, 0, 0};
+    size_t length = (claimed + 7) / 8;
     for (size_t i = 1, n = 0; n < length; i++) {
         b.held |= (uint64_t)received[b.run][lent[i]].bits << b.count;
         b.count += received[b.run][lent[i]].count;
@@ -146,6 +149,8 @@ static void hand_out(const uint8_t *lent, uint8_t *out, size_t length)
             b.count -= 8;
         }
     }
+    if (claimed % 8)
+        out[length - 1] &= (uint8_t)((1u << claimed % 8) - 1);
 }
 
 uint32_t plain_read_frame(uint8_t method, size_t bits, const uint8_t *lent, size_t lent_length,
@@ -164,9 +169,12 @@ uint32_t plain_read_frame(uint8_t method, size_t bits, const uint8_t *lent, size
             *value = 0;
         return refusal;
     }
-    if (*value > out_length)
+    size_t claimed = *value;
+    if ((claimed + 7) / 8 > out_length) {
+        *value = (claimed + 7) / 8;
         return 38;
-    hand_out(lent, out, *value);
+    }
+    hand_out(lent, out, claimed);
     return 0;
 }
 
@@ -203,27 +211,64 @@ static inline uint8_t *put_bytes(struct bits *b, uint8_t *out, const uint8_t *co
     return out;
 }
 
-uint32_t plain_write_frame(uint8_t method, const uint8_t *content, size_t content_length,
+/* The last bits of a content, fewer than 8. */
+struct tail { unsigned bits, count; };
+
+static struct tail tail_of(const uint8_t *content, size_t claimed)
+{
+    struct tail tail = {0, claimed % 8};
+    if (tail.count)
+        tail.bits = content[claimed / 8] & ((1u << tail.count) - 1);
+    return tail;
+}
+
+/* A tail as it is sent behind a run of ones. */
+static struct tail send_tail(struct tail tail, unsigned *run)
+{
+    struct tail line = {0, 0};
+    for (unsigned i = 0; i < tail.count; i++) {
+        unsigned bit = tail.bits >> i & 1;
+        line.bits |= bit << line.count++;
+        *run = bit ? *run + 1 : 0;
+        if (*run == 5) {
+            line.count++;
+            *run = 0;
+        }
+    }
+    return line;
+}
+
+uint32_t plain_write_frame(uint8_t method, size_t claimed, const uint8_t *content, size_t content_length,
                            uint8_t *out, size_t out_length, size_t *value)
 {
     *value = 0;
     if (method != 5 && method != 6)
         return 1;
     const struct rule *rule = &rules[method - 5];
-    if (content_length == 0)
+    if (claimed / 8 + (claimed % 8 != 0) > content_length)
+        return 66;
+    if (claimed == 0)
         return 21;
-    if (content_length > rule->longest)
+    if (claimed > rule->longest)
         return 22;
-    uint32_t reg = enter_all(rule->table, rule->ones, content, content_length) ^ rule->ones;
+    size_t whole = claimed / 8;
+    struct tail tail = tail_of(content, claimed);
+    uint32_t reg = enter_all(rule->table, rule->ones, content, whole);
+    if (tail.count)
+        reg = enter_low(rule->table, reg, tail.bits, tail.count);
+    reg ^= rule->ones;
     uint8_t check[4] = {(uint8_t)reg, (uint8_t)(reg >> 8), (uint8_t)(reg >> 16), (uint8_t)(reg >> 24)};
     unsigned run = 0;
-    size_t bits = 16 + count_bits(content, content_length, &run);
+    size_t bits = 16 + count_bits(content, whole, &run);
+    bits += send_tail(tail, &run).count;
     bits += count_bits(check, rule->check_bytes, &run);
     *value = (bits + 7) / 8;
     if (*value > out_length)
         return 23;
     struct bits b = {FLAG, 8, 0};
-    uint8_t *end = put_bytes(&b, out, content, content_length);
+    uint8_t *end = put_bytes(&b, out, content, whole);
+    struct tail line = send_tail(tail, &b.run);
+    end = put(&b, end, line.bits, line.count);
     end = put_bytes(&b, end, check, rule->check_bytes);
     end = put(&b, end, FLAG, 8);
     for (unsigned stored = 0; stored < b.count; stored += 8)

@@ -22,6 +22,12 @@ static inline uint32_t enter_all(const uint32_t *table, uint32_t reg, const uint
     return reg;
 }
 
+/* The lowest `count` bits, 1 to 8, of a byte: moved up to its top, since the zeros below then only shift. */
+static inline uint32_t enter_low(const uint32_t *table, uint32_t reg, unsigned bits, unsigned count)
+{
+    return table[((reg ^ bits) << (8 - count)) & 255] ^ (reg >> count);
+}
+
 void table_init(void);
 void frame_init(void);
 #endif

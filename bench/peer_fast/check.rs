@@ -115,6 +115,15 @@ impl Register {
         }
     }
 
+    /// The lowest so many bits of a byte, one by one.
+    pub fn enter_low(&mut self, byte: u8, count: usize) {
+        for power in 0..count {
+            let differs = (self.value ^ u32::from(byte >> power)) & 1;
+            let entry = self.table[0x80 * differs as usize];
+            self.value = entry ^ self.value >> 1;
+        }
+    }
+
     /// The check of what has entered, its first bit sent in bit 0.
     pub fn check(self) -> u32 {
         self.value ^ self.ones

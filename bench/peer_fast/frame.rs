@@ -54,25 +54,25 @@ impl<'a> Bits<'a> {
         (0..8).for_each(|power| self.push(FLAG >> power & 1));
     }
 
-    /// Content and check, a zero inserted after each five ones.
-    fn stuffed(&mut self, bytes: &[u8]) {
-        for byte in bytes {
-            for power in 0..8 {
-                let bit = byte >> power & 1;
-                self.push(bit);
-                self.ones = if bit == 1 { self.ones + 1 } else { 0 };
-                if self.ones == 5 {
-                    self.push(0);
-                    self.ones = 0;
-                }
+    /// The lowest so many bits of a byte of content or check, a zero inserted
+    /// after each five ones.
+    fn stuffed(&mut self, byte: u8, count: usize) {
+        for power in 0..count {
+            let bit = byte >> power & 1;
+            self.push(bit);
+            self.ones = if bit == 1 { self.ones + 1 } else { 0 };
+            if self.ones == 5 {
+                self.push(0);
+                self.ones = 0;
             }
         }
     }
 
-    fn frame(&mut self, content: &[u8], check: &[u8]) {
+    fn frame(&mut self, (whole, part, count): (&[u8], u8, usize), check: &[u8]) {
         self.flag();
-        self.stuffed(content);
-        self.stuffed(check);
+        whole.iter().for_each(|byte| self.stuffed(*byte, 8));
+        self.stuffed(part, count);
+        check.iter().for_each(|byte| self.stuffed(*byte, 8));
         self.flag();
         if self.count % 8 != 0 {
             self.store();
@@ -80,12 +80,17 @@ impl<'a> Bits<'a> {
     }
 }
 
-/// Writes a frame; gives its number of bits.
-pub fn write(method: u8, content: &[u8], out: &mut [u8]) -> Result<usize, Refusal> {
-    ask(!content.is_empty(), Refusal::plain(21))?;
-    ask(content.len() <= longest_content(method), Refusal::plain(22))?;
+/// Writes a frame of so many bits of a content; gives its number of bits.
+pub fn write(method: u8, claimed: usize, content: &[u8], out: &mut [u8]) -> Result<usize, Refusal> {
+    ask(claimed.div_ceil(8) <= content.len(), Refusal::plain(66))?;
+    ask(claimed > 0, Refusal::plain(21))?;
+    ask(claimed <= longest_content(method), Refusal::plain(22))?;
     let (mut register, check_bytes, _) = rule(method);
-    register.enter_all(content);
+    let (whole, rest) = content.split_at(claimed / 8);
+    let part = rest.first().map_or(0, |byte| *byte);
+    register.enter_all(whole);
+    register.enter_low(part, claimed % 8);
+    let content = (whole, part, claimed % 8);
     let check = &register.check().to_le_bytes()[..check_bytes];
     let mut counted = Bits::to(None);
     counted.frame(content, check);
@@ -101,12 +106,12 @@ fn is_flag(lent: &[u8], at: usize) -> bool {
 
 /// Takes the inserted zeros out of the bits before the closing flag and hands
 /// on every full byte, until `take` wants no more: question 33. Gives the
-/// number of bits.
+/// number of bits, and the last of them that fill no byte.
 fn unstuffed(
     lent: &[u8],
     closing: usize,
     mut take: impl FnMut(u8) -> bool,
-) -> Result<usize, Refusal> {
+) -> Result<(usize, u8), Refusal> {
     let (mut ones, mut count, mut held) = (0, 0, 0);
     for place in 8..closing {
         let bit = lent[place / 8] >> (place % 8) & 1;
@@ -120,16 +125,16 @@ fn unstuffed(
         count += 1;
         if count % 8 == 0 {
             if !take(held) {
-                return Ok(count);
+                return Ok((count, 0));
             }
             held = 0;
         }
     }
     ask(ones < 5, Refusal::with(33, closing))?;
-    Ok(count)
+    Ok((count, held))
 }
 
-/// Reads a frame; gives the number of content bytes.
+/// Reads a frame; gives the number of content bits.
 pub fn read(method: u8, bits: usize, lent: &[u8], out: &mut [u8]) -> Result<usize, Refusal> {
     ask(bits.div_ceil(8) <= lent.len(), Refusal::plain(31))?;
     ask(
@@ -137,20 +142,24 @@ pub fn read(method: u8, bits: usize, lent: &[u8], out: &mut [u8]) -> Result<usiz
         Refusal::plain(32),
     )?;
     let (mut register, check_bytes, remainder) = rule(method);
-    let left = unstuffed(lent, bits - 8, |byte| {
+    let (left, last) = unstuffed(lent, bits - 8, |byte| {
         register.enter(byte);
         true
     })?;
-    ask(left % 8 == 0, Refusal::plain(34))?;
-    ask(left / 8 > check_bytes, Refusal::plain(35))?;
-    let length = left / 8 - check_bytes;
-    ask(length <= longest_content(method), Refusal::plain(36))?;
+    register.enter_low(last, left % 8);
+    ask(left > 8 * check_bytes, Refusal::plain(35))?;
+    let claimed = left - 8 * check_bytes;
+    ask(claimed <= longest_content(method), Refusal::plain(36))?;
     ask(register.value == remainder, Refusal::plain(37))?;
+    let length = claimed.div_ceil(8);
     ask(length <= out.len(), Refusal::with(38, length))?;
     let mut places = out[..length].iter_mut();
     unstuffed(lent, bits - 8, |byte| {
         let place = places.next();
         place.map(|place| *place = byte).is_some()
     })?;
-    Ok(length)
+    if claimed % 8 > 0 {
+        out[length - 1] &= (1 << (claimed % 8)) - 1;
+    }
+    Ok(claimed)
 }

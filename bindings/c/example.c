@@ -1,6 +1,6 @@
 /*
- * Writes a block, reads it back, does the same under DKOI, writes and reads a
- * frame, judges a number, keeps blocks until they are acknowledged, spreads a
+ * Writes a block, reads it back, does the same under DKOI, writes and reads
+ * frames, judges a number, keeps blocks until they are acknowledged, spreads a
  * text over a line, replays a recorded line, joins the checks of two parts and
  * writes a fixed block. Every step is checked; the program ends with 1 where
  * one fails.
@@ -97,32 +97,62 @@ static void other_code(void)
     expect(number == 58, "the matrix carries KOI-7 alone");
 }
 
-/* Two bytes FF under the 16-bit check take 54 bits. */
+/* Two bytes FF, which are 16 bits, take 54 bits under the 16-bit check. */
 static void frame(void)
 {
     const uint8_t content[] = {0xFF, 0xFF};
-    uint8_t lent[CORRIDOR_FRAME_BYTES(CORRIDOR_LONGEST_FRAME_16(sizeof content))];
+    uint8_t lent[CORRIDOR_FRAME_BYTES(CORRIDOR_LONGEST_FRAME_16(8 * sizeof content))];
     uint8_t out[sizeof content];
     size_t bits;
-    size_t length;
+    size_t claimed;
 
-    uint32_t number = corridor_write_frame(CORRIDOR_FRAME_16, content,
+    uint32_t number = corridor_write_frame(CORRIDOR_FRAME_16,
+                                           8 * sizeof content, content,
                                            sizeof content, lent, sizeof lent,
                                            &bits);
     expect(number == 0, "the frame is written");
-    expect(bits == CORRIDOR_LONGEST_FRAME_16(sizeof content), "the longest");
+    expect(bits == CORRIDOR_LONGEST_FRAME_16(8 * sizeof content),
+           "the longest");
     if (number != 0)
         return;
     print_bytes("frame", lent, CORRIDOR_FRAME_BYTES(bits));
 
     number = corridor_read_frame(CORRIDOR_FRAME_16, bits, lent, sizeof lent,
-                                 out, sizeof out, &length);
-    expect(number == 0 && length == sizeof content, "the frame is taken");
+                                 out, sizeof out, &claimed);
+    expect(number == 0 && claimed == 8 * sizeof content, "the frame is taken");
     expect(memcmp(out, content, sizeof content) == 0, "its content");
 
     number = corridor_read_frame(CORRIDOR_FRAME_16, bits, lent, sizeof lent,
-                                 out, 1, &length);
-    expect(number == 38 && length == 2, "a short output names what it needs");
+                                 out, 1, &claimed);
+    expect(number == 38 && claimed == 2, "a short output names what it needs");
+}
+
+/* A content of 9 bits: the seven high bits of its second byte are ignored, and
+ * zero where it is read. */
+static void frame_inside_a_byte(void)
+{
+    const uint8_t content[] = {0x41, 0xFF};
+    uint8_t lent[CORRIDOR_FRAME_BYTES(CORRIDOR_LONGEST_FRAME_32(9))];
+    uint8_t out[CORRIDOR_FRAME_BYTES(9)];
+    size_t bits;
+    size_t claimed;
+
+    uint32_t number = corridor_write_frame(CORRIDOR_FRAME_32, 9, content,
+                                           sizeof content, lent, sizeof lent,
+                                           &bits);
+    expect(number == 0, "the frame is written");
+    if (number != 0)
+        return;
+    print_bytes("frame of 9 bits", lent, CORRIDOR_FRAME_BYTES(bits));
+
+    number = corridor_read_frame(CORRIDOR_FRAME_32, bits, lent, sizeof lent,
+                                 out, sizeof out, &claimed);
+    expect(number == 0 && claimed == 9, "the frame is taken");
+    expect(out[0] == 0x41 && out[1] == 0x01, "its content, no spare bit set");
+
+    number = corridor_write_frame(CORRIDOR_FRAME_32, 17, content,
+                                  sizeof content, lent, sizeof lent, &bits);
+    expect(number == 66, "two bytes hold 16 bits");
 }
 
 /* Modulus 8, window 2: the awaited number is new, each of the two before it a
@@ -265,6 +295,7 @@ int main(void)
     block();
     other_code();
     frame();
+    frame_inside_a_byte();
     numbers();
     sender();
     interleaving();

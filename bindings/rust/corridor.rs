@@ -183,14 +183,14 @@ pub const fn longest_line(shape: Shape, header: usize, text: usize) -> usize {
     }
 }
 
-/// Bits of the longest frame of so many bytes of content. Proved as `lengths`
-/// (`frame_5` and `frame_6`).
-pub const fn longest_frame(method: FrameMethod, content: usize) -> usize {
+/// Bits of the longest frame of so many bits of content, 8 * n for n whole
+/// bytes. Proved as `lengths` (`frame_5` and `frame_6`).
+pub const fn longest_frame(method: FrameMethod, bits: usize) -> usize {
     let check = match method {
         FrameMethod::Cyclic16 => 16,
         FrameMethod::Cyclic32 => 32,
     };
-    let checked = 8 * content + check;
+    let checked = bits + check;
     checked + 16 + checked / 5
 }
 
@@ -223,7 +223,8 @@ pub fn write_block(
 }
 
 /// Reads one frame of `bits` bits from `lent`; gives the number of content
-/// bytes, which stand at the start of `out`.
+/// bits, 8 * n for n whole bytes. They stand at the start of `out`, the low bit
+/// of each byte first; spare high bits of the last byte are zero.
 pub fn read_frame(
     method: FrameMethod,
     bits: usize,
@@ -235,10 +236,17 @@ pub fn read_frame(
     value_of(number, value)
 }
 
-/// Writes one frame to the start of `out` and gives its number of bits.
-pub fn write_frame(method: FrameMethod, content: &[u8], out: &mut [u8]) -> Result<usize, Refusal> {
+/// Writes one frame of the first `bits` bits of `content`, the low bit of each
+/// byte first, to the start of `out` and gives its number of bits. n whole bytes
+/// are 8 * n bits; bits of `content` behind those claimed are ignored.
+pub fn write_frame(
+    method: FrameMethod,
+    bits: usize,
+    content: &[u8],
+    out: &mut [u8],
+) -> Result<usize, Refusal> {
     let mut value = 0;
-    let number = codes::write_frame(method as u8, content, out, &mut value);
+    let number = codes::write_frame(method as u8, bits, content, out, &mut value);
     value_of(number, value)
 }
 
@@ -525,12 +533,19 @@ pub mod codes {
     }
 
     /// `corridor_write_frame`
-    pub fn write_frame(method: u8, content: &[u8], out: &mut [u8], value: &mut usize) -> u32 {
+    pub fn write_frame(
+        method: u8,
+        bits: usize,
+        content: &[u8],
+        out: &mut [u8],
+        value: &mut usize,
+    ) -> u32 {
         let (room, out) = (out.len(), out.as_mut_ptr());
         // SAFETY: as in `read_block`.
         unsafe {
             interface::corridor_write_frame(
                 method,
+                bits,
                 content.as_ptr(),
                 content.len(),
                 out,
@@ -745,6 +760,7 @@ mod interface {
         ) -> u32;
         pub fn corridor_write_frame(
             method: u8,
+            bits: usize,
             content: *const u8,
             content_length: usize,
             out: *mut u8,

@@ -35,6 +35,7 @@ fn run() -> Result<(), Refusal> {
     refused_block();
     other_code()?;
     frame()?;
+    frame_inside_a_byte()?;
     let (arrival, awaited) = corridor::receive(3, 2, 2, 2)?;
     assert_eq!((arrival, awaited), (Arrival::New, 3));
     println!("number 2: {arrival:?}, then {awaited} is awaited");
@@ -87,17 +88,33 @@ fn other_code() -> Result<(), Refusal> {
     Ok(())
 }
 
-/// A content of two bytes FF under the 16-bit check takes 54 bits, and none of
-/// two bytes takes more.
+/// A content of two bytes FF, which are 16 bits, takes 54 bits under the 16-bit
+/// check, and none of two bytes takes more.
 fn frame() -> Result<(), Refusal> {
-    const LONGEST: usize = corridor::longest_frame(FrameMethod::Cyclic16, 2);
+    const LONGEST: usize = corridor::longest_frame(FrameMethod::Cyclic16, 8 * 2);
     let mut lent = [0; LONGEST.div_ceil(8)];
-    let bits = corridor::write_frame(FrameMethod::Cyclic16, &[0xFF, 0xFF], &mut lent)?;
+    let bits = corridor::write_frame(FrameMethod::Cyclic16, 8 * 2, &[0xFF, 0xFF], &mut lent)?;
     assert_eq!((bits, LONGEST), (54, 54));
     let mut content = [0; 2];
-    let length = corridor::read_frame(FrameMethod::Cyclic16, bits, &lent, &mut content)?;
-    assert_eq!((length, content), (2, [0xFF, 0xFF]));
-    println!("frame: {bits} bits, {length} content bytes");
+    let claimed = corridor::read_frame(FrameMethod::Cyclic16, bits, &lent, &mut content)?;
+    assert_eq!((claimed, content), (8 * 2, [0xFF, 0xFF]));
+    println!("frame: {bits} bits, {claimed} of content");
+    Ok(())
+}
+
+/// A content of 9 bits: the seven high bits of its second byte are ignored, and
+/// zero where it is read.
+fn frame_inside_a_byte() -> Result<(), Refusal> {
+    const LONGEST: usize = corridor::longest_frame(FrameMethod::Cyclic32, 9);
+    let mut lent = [0; LONGEST.div_ceil(8)];
+    let bits = corridor::write_frame(FrameMethod::Cyclic32, 9, &[0x41, 0xFF], &mut lent)?;
+    let mut content = [0; 2];
+    let claimed = corridor::read_frame(FrameMethod::Cyclic32, bits, &lent, &mut content)?;
+    assert_eq!((claimed, content), (9, [0x41, 0x01]));
+    let too_many = corridor::write_frame(FrameMethod::Cyclic32, 17, &content, &mut lent);
+    let (number, value) = (66, 0);
+    assert_eq!(too_many, Err(Refusal { number, value }));
+    println!("frame: {bits} bits, {claimed} of content, {too_many:?}");
     Ok(())
 }
 

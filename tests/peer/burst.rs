@@ -2,13 +2,17 @@
 //! ones in longer blocks and frames: none is accepted with the same framing.
 
 use crate::counts::Counts;
-use crate::peer::bits::flip;
+use crate::part_bytes::{numbered, BITS};
+use crate::peer::bits::{flip, of_bytes};
 use crate::peer::signs::Link;
 use crate::random::Random;
 use crate::specimen::Specimen;
 
 /// Patterns that are drawn at random.
 const DRAWN: u64 = 400_000;
+
+/// Contents that end inside a byte are the first bits of these.
+const CONTENTS: [u16; 3] = [0x0000, 0xFFFF, 0x1E5A];
 
 /// The text or content of the longer blocks and frames: seven sixteens, and
 /// every check folds some words of it.
@@ -43,6 +47,16 @@ pub fn run() {
     every("method 5", &Specimen::frame(5, &[0x41, 0x7E]), 16);
     every("method 6", &Specimen::frame(6, &[0x41, 0x7E]), 16);
     drawn("method 6", &Specimen::frame(6, &[0x41, 0x7E, 0x00]), 17, 32);
+    for (bits, number) in BITS
+        .into_iter()
+        .flat_map(|bits| CONTENTS.map(|n| (bits, n)))
+    {
+        let name = |method| format!("method {method}, the first {bits} of {number:04X}");
+        every(&name(5), &numbered(5, bits, number), 16);
+        let specimen = numbered(6, bits, number);
+        every(&name(6), &specimen, 16);
+        drawn(&name(6), &specimen, 17, 32);
+    }
     longer();
 }
 
@@ -68,8 +82,12 @@ fn longer() {
         let clear = Specimen::block(link, &clear);
         up_to(&format!("{name}, clear text"), &clear, 16);
     }
-    up_to("method 5", &Specimen::frame(5, &text), 16);
-    up_to("method 6", &Specimen::frame(6, &text), 32);
+    for (bits, name) in [(0, ""), (1, " and a bit"), (7, " and 7 bits")] {
+        let content = &of_bytes(&[&text[..], &[0x5A]].concat())[..8 * LONGER + bits];
+        let method = |method| Specimen::frame_of_bits(method, content);
+        up_to(&format!("method 5{name}"), &method(5), 16);
+        up_to(&format!("method 6{name}"), &method(6), 32);
+    }
 }
 
 /// Every burst of at most `width` bits at every place. A pattern is odd: its
@@ -103,7 +121,7 @@ fn drawn(name: &str, specimen: &Specimen, least: usize, width: usize) {
 
 fn try_burst(specimen: &Specimen, start: usize, pattern: u64, counts: &mut Counts) {
     let mut line = specimen.line.clone();
-    let mut out = [0; LONGER];
+    let mut out = [0; LONGER + 1];
     for offset in (0..64).filter(|offset| pattern >> offset & 1 == 1) {
         flip(&mut line, specimen.checked[start + offset]);
     }

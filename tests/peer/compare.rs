@@ -9,6 +9,7 @@
 //! answer number, and ends with 1 on the first difference or where a number of
 //! document 01 was never met.
 
+mod claims;
 #[allow(dead_code)]
 #[path = "../../bindings/rust/corridor.rs"]
 mod corridor;
@@ -72,6 +73,9 @@ fn main() -> ExitCode {
     });
     stage("frames at every bit", tried, |judge| {
         forms::frames::run(judge, &mut random)
+    });
+    stage("contents of any number of bits", tried, |judge| {
+        claims::run(judge, &mut random)
     });
     stage("generated", tried, |judge| {
         generated::run(judge, &mut random, cases)

@@ -22,6 +22,7 @@ mod frames;
 #[allow(dead_code)]
 mod lines;
 mod pairs;
+mod part_bytes;
 #[allow(dead_code)]
 mod peer;
 mod property;
@@ -47,6 +48,7 @@ fn main() -> ExitCode {
     };
     substitution::run();
     burst::run();
+    part_bytes::run();
     diagonals::run();
     fixed_damage::run();
     syndromes::run();

@@ -103,15 +103,15 @@ pub fn read_frame(method: u8, bits: usize, lent: &[u8]) -> Expected {
     }
     match frame::take(method, bits, lent) {
         Err(refusal) => Expected::refusal(refusal, 1),
-        Ok(content) => Expected::success(vec![content.len()], content, 38),
+        Ok(content) => Expected::success(vec![content.len()], bits::to_bytes(&content), 38),
     }
 }
 
-pub fn write_frame(method: u8, content: &[u8]) -> Expected {
+pub fn write_frame(method: u8, claimed: usize, content: &[u8]) -> Expected {
     if !(5..=6).contains(&method) {
         return Expected::outside(1);
     }
-    match frame::write(method, content) {
+    match frame::write(method, claimed, content) {
         Err(refusal) => Expected::refusal(refusal, 1),
         Ok(line) => Expected::success(vec![line.len()], bits::to_bytes(&line), 23),
     }

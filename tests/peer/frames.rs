@@ -27,13 +27,28 @@ pub fn sealed(method: u8, content: &[bool]) -> Vec<bool> {
     between_flags(&[content, &rule(method).check(content)].concat())
 }
 
-/// One frame of a kind: sound, sound but of odd length, without content,
-/// damaged, or noise.
+/// How many bits of so many bytes of content are claimed: all, fewer, or now
+/// and then more than there are.
+pub fn claimed(random: &mut Random, length: usize) -> usize {
+    let all = 8 * length;
+    match random.below(32) {
+        0 => all + 1 + random.below(9),
+        1 => random.of(&HUGE),
+        2..=11 => all,
+        12..=21 => all.saturating_sub(1 + random.below(7)),
+        _ => random.below(all + 1),
+    }
+}
+
+/// One frame of a kind: sound, without check, without inserted zeros, damaged,
+/// or noise. The content is the bytes whole or cut at any bit, down to none.
 pub fn line(random: &mut Random, method: u8, content: &[u8]) -> Vec<bool> {
-    let sound = bits::of_bytes(content);
+    let mut sound = bits::of_bytes(content);
+    if random.once_in(2) {
+        sound.truncate(random.below(sound.len() + 1));
+    }
     match random.below(8) {
-        0 | 1 => sealed(method, &sound),
-        2 => sealed(method, &sound[..random.below(sound.len() + 1)]),
+        0..=2 => sealed(method, &sound),
         3 => between_flags(&sound),
         4 => [&FLAG[..], &sound, &FLAG].concat(),
         5 => sound,

@@ -115,25 +115,43 @@ fn frame_round(judge: &mut Judge, random: &mut Random, longest: usize) {
     let method = 5 + random.below(2) as u8;
     let content = frames::content(random, longest);
     judge.checks(&content);
-    judge.write_frame(method, &content, room(random));
-    let (told, written) = judge.write_frame(method, &content, Room::Needed(0));
+    let claimed = frames::claimed(random, content.len());
+    judge.write_frame(method, claimed, &content, room(random));
+    let (told, written) = judge.write_frame(method, claimed, &content, Room::Needed(0));
     if !written.is_empty() {
         judge.read_frame(method, told, &written, Room::Needed(0));
-        frame_trip(judge, method, &content, told, &written);
+        frame_trip(judge, method, (claimed, &content), told, &written);
     }
     let line = frames::line(random, method, &content);
     let lent = frames::lent(random, &line);
     judge.read_frame(method, lent.told, &lent.bytes, room(random));
 }
 
-/// Property 2 of frames by the library alone.
-fn frame_trip(judge: &mut Judge, method: u8, content: &[u8], told: usize, written: &[u8]) {
-    let mut out = vec![0; content.len()];
+/// Property 2 of frames by the library alone: a written frame gives back the
+/// bits that were claimed, the spare ones zero, and these give the frame.
+pub fn frame_trip(
+    judge: &mut Judge,
+    method: u8,
+    (claimed, content): (usize, &[u8]),
+    told: usize,
+    written: &[u8],
+) {
+    let mut wanted = content[..claimed.div_ceil(8)].to_vec();
+    if let (Some(last), true) = (wanted.last_mut(), claimed % 8 > 0) {
+        *last %= 1 << (claimed % 8);
+    }
+    let mut out = vec![0xFF; wanted.len()];
+    let mut bits = 0;
+    let read = codes::read_frame(method, told, written, &mut out, &mut bits);
+    let mut again = vec![0xFF; written.len()];
     let mut length = 0;
-    let read = codes::read_frame(method, told, written, &mut out, &mut length);
-    if read != 0 || length != content.len() || out != content {
-        let got = format!("{read} {length} {}", hex(&out));
-        differ("frame round trip", &hex(written), &got, &hex(content));
+    let wrote = codes::write_frame(method, bits, &out, &mut again, &mut length);
+    let back = (read, bits, &out) == (0, claimed, &wanted);
+    let there = (wrote, length, &again[..]) == (0, told, written);
+    if !back || !there {
+        let got = format!("{read} {bits} {}, {wrote} {length}", hex(&out));
+        let wanted = format!("{claimed} {}, {told}", hex(&wanted));
+        differ("frame round trip", &hex(written), &got, &wanted);
     }
     judge.tally.round_trips += 1;
 }

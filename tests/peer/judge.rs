@@ -132,19 +132,32 @@ impl Judge {
         number
     }
 
-    pub fn write_frame(&mut self, method: u8, content: &[u8], room: Room) -> (usize, Vec<u8>) {
-        let input = || format!("method {method} content {}", hex(content));
-        let expected = expected::write_frame(method, content);
+    /// Writes a frame of so many bits of a content; gives the value and, after
+    /// a success, the frame.
+    pub fn write_frame(
+        &mut self,
+        method: u8,
+        claimed: usize,
+        content: &[u8],
+        room: Room,
+    ) -> (usize, Vec<u8>) {
+        let input = || format!("method {method} claimed {claimed} of {}", hex(content));
+        let expected = expected::write_frame(method, claimed, content);
         let (expected, mut out) = lend(expected, room, content.len() + 8);
         let mut value = BEFORE;
         let lent = out.len() - GUARD;
-        let number = codes::write_frame(method, content, &mut out[..lent], &mut value);
+        let number = codes::write_frame(method, claimed, content, &mut out[..lent], &mut value);
         same("write_frame", &expected, number, &[value], &out, &input);
         self.tally.note(Call::WriteFrame, number, method);
         if self.typed_too() {
-            typed::write_frame(method, content, &expected, lent);
+            typed::write_frame(method, (claimed, content), &expected, lent);
         }
         (value, expected.out)
+    }
+
+    /// The same of all bits of a content.
+    pub fn write_whole(&mut self, method: u8, content: &[u8], room: Room) -> (usize, Vec<u8>) {
+        self.write_frame(method, 8 * content.len(), content, room)
     }
 
     pub fn receive(&mut self, n: u8, w: u8, c: u8, received: u8) {

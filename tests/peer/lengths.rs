@@ -53,16 +53,15 @@ pub fn run(tally: &mut Tally, random: &mut Random) {
             })
             .collect();
         clear_text(tally, random, &text);
-        let length = 1 + random.below(300);
-        let content = random.bytes(length);
-        frames(tally, &content);
-        frames(tally, &vec![0xFF; content.len()]);
+        let bits = 1 + random.below(2_400);
+        let content = random.bytes(bits.div_ceil(8));
+        frames(tally, bits, &content);
+        frames(tally, bits, &vec![0xFF; content.len()]);
     }
-    for content in 0..=0xFFFF_u16 {
-        frames(tally, &content.to_le_bytes());
-    }
-    for content in 0..=0xFF {
-        frames(tally, &[content]);
+    for bits in 1..=16 {
+        for content in 0..=0xFFFF_u16 >> (16 - bits) {
+            frames(tally, bits, &content.to_le_bytes());
+        }
     }
 }
 
@@ -90,20 +89,21 @@ fn clear_text(tally: &mut Tally, random: &mut Random, text: &[u8]) {
 }
 
 /// "A frame of method 5 with n content bytes has at most 8n + 32 + (8n + 16)
-/// divided by 5, rounded down, bits; FF FF meets it."
-fn frames(tally: &mut Tally, content: &[u8]) {
-    let n = content.len();
+/// divided by 5, rounded down, bits; FF FF meets it." So with any number of
+/// bits in place of 8n.
+fn frames(tally: &mut Tally, n: usize, content: &[u8]) {
     let methods = [
-        (FrameMethod::Cyclic16, 8 * n + 32 + (8 * n + 16) / 5),
-        (FrameMethod::Cyclic32, 8 * n + 48 + (8 * n + 32) / 5),
+        (FrameMethod::Cyclic16, n + 32 + (n + 16) / 5),
+        (FrameMethod::Cyclic32, n + 48 + (n + 32) / 5),
     ];
     for (method, most) in methods {
         let mut frame = vec![0; longest_frame(method, n).div_ceil(8)];
-        let bits = corridor::write_frame(method, content, &mut frame);
-        let meets = method == FrameMethod::Cyclic16 && content == [0xFF, 0xFF];
+        let bits = corridor::write_frame(method, n, content, &mut frame);
+        let full = n == 16 && content == [0xFF, 0xFF];
+        let meets = method == FrameMethod::Cyclic16 && full;
         let within = matches!(bits, Ok(bits) if bits <= most && (!meets || bits == most));
         if longest_frame(method, n) != most || !within {
-            let input = format!("{method:?} content {content:02X?}");
+            let input = format!("{method:?} {n} bits of {content:02X?}");
             differ(
                 "the longest frame",
                 &input,

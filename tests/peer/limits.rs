@@ -16,8 +16,14 @@ pub fn run(judge: &mut Judge, random: &mut Random) {
             lengths(judge, random, link);
         }
     }
-    for (method, longest) in [(5, 4_096), (6, 65_536)] {
-        contents(judge, random, method, longest);
+    for (method, longest) in [(5, 32_768), (6, 524_288)] {
+        for bits in longest - 1..=longest + 1 {
+            contents(judge, random, method, bits);
+        }
+        for bits in [longest - 8, longest + 8] {
+            contents(judge, random, method, bits);
+        }
+        claims(judge, random, method, longest);
     }
     for length in [1_000, 4_097, 65_537, 100_000] {
         judge.checks(&random.bytes(length));
@@ -109,25 +115,36 @@ fn lengths(judge: &mut Judge, random: &mut Random, link: Link) {
     judge.read_block(outside, &vec![SYN; 16_385], Room::Bytes(64));
 }
 
-/// Frames of the longest content and one byte more or less, their content
-/// any, all ones and all zeros.
-fn contents(judge: &mut Judge, random: &mut Random, method: u8, longest: usize) {
-    for length in longest - 1..=longest + 1 {
-        for content in [random.bytes(length), vec![0xFF; length], vec![0x00; length]] {
-            for more in [-1, 0, 1] {
-                judge.write_frame(method, &content, Room::Needed(more));
-            }
-            let mut line = frames::sealed(method, &bits::of_bytes(&content));
-            let mut lent = bits::to_bytes(&line);
-            lent.extend([0xFF; 3]);
-            for more in [-1, 0, 1] {
-                judge.read_frame(method, line.len(), &lent, Room::Needed(more));
-            }
-            judge.read_frame(method, line.len() - 1, &lent, Room::Needed(0));
-            judge.read_frame(method, line.len() + 8, &lent, Room::Needed(0));
-            let place = random.below(line.len());
-            line[place] ^= true;
-            judge.read_frame(method, line.len(), &bits::to_bytes(&line), Room::Needed(0));
+/// Frames of so many content bits, about the longest, written and read: any,
+/// all ones and all zeros.
+fn contents(judge: &mut Judge, random: &mut Random, method: u8, claimed: usize) {
+    let length = claimed.div_ceil(8);
+    for content in [random.bytes(length), vec![0xFF; length], vec![0x00; length]] {
+        for more in [-1, 0, 1] {
+            judge.write_frame(method, claimed, &content, Room::Needed(more));
+        }
+        let mut line = frames::sealed(method, &bits::of_bytes(&content)[..claimed]);
+        let mut lent = bits::to_bytes(&line);
+        lent.extend([0xFF; 3]);
+        for more in [-1, 0, 1] {
+            judge.read_frame(method, line.len(), &lent, Room::Needed(more));
+        }
+        judge.read_frame(method, line.len() - 1, &lent, Room::Needed(0));
+        judge.read_frame(method, line.len() + 8, &lent, Room::Needed(0));
+        let place = random.below(line.len());
+        line[place] ^= true;
+        judge.read_frame(method, line.len(), &bits::to_bytes(&line), Room::Needed(0));
+    }
+}
+
+/// Claims of a few bits and of about the limit, of fewer, as many and more
+/// bytes: 66 is asked before 21 and 22.
+fn claims(judge: &mut Judge, random: &mut Random, method: u8, longest: usize) {
+    for length in [0, 1, longest / 8 - 1, longest / 8, longest / 8 + 1] {
+        let content = random.bytes(length);
+        let about = longest - 9..=longest + 9;
+        for claimed in (0..=9).chain(about).chain(frames::HUGE) {
+            judge.write_frame(method, claimed, &content, Room::Needed(0));
         }
     }
 }

@@ -3,7 +3,7 @@
 //! under the 32-bit check never.
 
 use crate::counts::Counts;
-use crate::peer::bits::flip;
+use crate::peer::bits::{flip, of_bytes};
 use crate::peer::signs::{Link, DLE, ETX, SOH, STX, SYN};
 use crate::property::{may_differ, PERIOD};
 use crate::random::Random;
@@ -98,13 +98,14 @@ fn block(link: Link, length: usize, start: &[u8], text: &[u8], end: &[u8]) -> Sp
     Specimen::block(link, &[start, &text, end].concat())
 }
 
-/// A frame of so many content bytes, with few ones in a row.
+/// A frame of so many content bits, with few ones in a row.
 fn frame(method: u8, content: usize) -> Specimen {
     let bytes = [0x11, 0x42, 0x24, 0x81, 0x48]
         .into_iter()
         .cycle()
-        .take(content);
-    Specimen::frame(method, &bytes.collect::<Vec<u8>>())
+        .take(content.div_ceil(8));
+    let bits = of_bytes(&bytes.collect::<Vec<u8>>());
+    Specimen::frame_of_bits(method, &bits[..content])
 }
 
 const KOI7_3: Link = Link::koi7(3, false);
@@ -113,7 +114,7 @@ const DKOI_3: Link = Link::dkoi(3);
 const DKOI_4: Link = Link::dkoi(4);
 
 /// The shorter blocks and frames, by the bytes of their text or content.
-const SHORTER: [(&str, fn(usize) -> Specimen); 6] = [
+const SHORTER: [(&str, fn(usize) -> Specimen); 8] = [
     ("method 3", |n| block(KOI7_3, n, &[STX], &PLAIN, &[ETX])),
     ("method 4", |n| block(KOI7_4, n, &[STX], &PLAIN, &[ETX])),
     ("method 3, DKOI", |n| {
@@ -122,8 +123,14 @@ const SHORTER: [(&str, fn(usize) -> Specimen); 6] = [
     ("method 4, DKOI", |n| {
         block(DKOI_4, n, &[STX], &PLAIN, &[ETX])
     }),
-    ("method 5", |n| frame(5, n)),
-    ("method 6", |n| frame(6, n)),
+    ("method 5", |n| frame(5, 8 * n)),
+    ("method 6", |n| frame(6, 8 * n)),
+    ("method 5, without some bits", |n| {
+        frame(5, 8 * n - 1 - n % 7)
+    }),
+    ("method 6, without some bits", |n| {
+        frame(6, 8 * n - 1 - n % 7)
+    }),
 ];
 
 /// Every pair of shorter blocks and frames, whose length lies around where
@@ -149,16 +156,18 @@ pub fn slice(time: Duration) {
     println!("pairs of flipped bits in full blocks and frames, a slice");
     Counts::print_head();
     let specimens = [
-        ("plain text", plain_block(KOI7_3), time / 10),
-        ("clear text", clear_block(KOI7_3), time / 10),
-        ("plain text", plain_block(KOI7_4), time / 10),
-        ("clear text", clear_block(KOI7_4), time / 10),
-        ("DKOI, plain text", plain_block(DKOI_3), time / 10),
-        ("DKOI, clear text", clear_block(DKOI_3), time / 10),
-        ("DKOI, plain text", plain_block(DKOI_4), time / 10),
-        ("DKOI, clear text", clear_block(DKOI_4), time / 10),
-        ("frame", frame(5, 4_096), time / 10),
-        ("frame", frame(6, 65_536), time / 10),
+        ("plain text", plain_block(KOI7_3), time / 12),
+        ("clear text", clear_block(KOI7_3), time / 12),
+        ("plain text", plain_block(KOI7_4), time / 12),
+        ("clear text", clear_block(KOI7_4), time / 12),
+        ("DKOI, plain text", plain_block(DKOI_3), time / 12),
+        ("DKOI, clear text", clear_block(DKOI_3), time / 12),
+        ("DKOI, plain text", plain_block(DKOI_4), time / 12),
+        ("DKOI, clear text", clear_block(DKOI_4), time / 12),
+        ("frame", frame(5, 32_768), time / 12),
+        ("frame", frame(6, 524_288), time / 12),
+        ("frame inside a byte", frame(5, 32_763), time / 12),
+        ("frame inside a byte", frame(6, 524_283), time / 12),
     ];
     for (name, specimen, time) in &specimens {
         slice_of(name, specimen, *time);

@@ -1,5 +1,5 @@
-//! The rows of document 01, "Lines to try", lines of method 7 and of DKOI, and
-//! the published check values.
+//! The rows of document 01, "Lines to try", lines of method 7 and of DKOI,
+//! frames that end inside a byte, and the published check values.
 //! The results stand here as the paper prints them; the judge compares the
 //! whole answer with the peer's on top.
 
@@ -157,6 +157,57 @@ const DKOI_ROWS: [Row; 3] = [
     ),
 ];
 
+/// A row of writing a frame: method, content bits claimed and the bytes that
+/// hold them; bits of the frame, and the check in it.
+type Frame<'a> = (&'a str, u8, usize, &'a [u8], usize, &'a [u8]);
+
+/// Under card 13 the spare bits of the last byte are ones here. So few ones
+/// take away the highest of the sixteen or thirty-two that are added, and what
+/// is left needs no division: the check is as many ones behind zeros.
+const FRAMES: [Frame; 13] = [
+    ("11", 5, 8, &[0xFF], 42, &[0x00, 0xFF]),
+    ("12", 5, 16, &[0xFF, 0xFF], 54, &[0xFF, 0xFF]),
+    ("13", 6, 8, &[0xFF], 58, &[0x00, 0x00, 0x00, 0xFF]),
+    ("card 13, 1 bit", 5, 1, &[0xFF], 33, &[0x00, 0x80]),
+    ("card 13, 7 bits", 5, 7, &[0xFF], 41, &[0x00, 0xFE]),
+    ("card 13, 9 bits", 5, 9, &[0xFF, 0xFF], 43, &[0x80, 0xFF]),
+    ("card 13, 1 bit", 6, 1, &[0xFF], 49, &[0, 0, 0, 0x80]),
+    ("card 13, 7 bits", 6, 7, &[0xFF], 57, &[0, 0, 0, 0xFE]),
+    (
+        "card 13, 9 bits",
+        6,
+        9,
+        &[0xFF, 0xFF],
+        59,
+        &[0, 0, 0x80, 0xFF],
+    ),
+    (
+        "card 13, 41 and a bit",
+        5,
+        9,
+        &[0x41, 0xFF],
+        42,
+        &[0xF2, 0x55],
+    ),
+    (
+        "card 13, 41 and a bit",
+        6,
+        9,
+        &[0x41, 0xFF],
+        57,
+        &[0x65, 0x4C, 0x54, 0x04],
+    ),
+    ("published", 5, 72, b"123456789", 104, &[0x6E, 0x90]),
+    (
+        "published",
+        6,
+        72,
+        b"123456789",
+        121,
+        &[0x26, 0x39, 0xF4, 0xCB],
+    ),
+];
+
 pub fn run(judge: &mut Judge) {
     for row in ROWS {
         read(judge, 0, row);
@@ -164,9 +215,9 @@ pub fn run(judge: &mut Judge) {
     for row in DKOI_ROWS {
         read(judge, 1, row);
     }
-    frame(judge, "11", 5, &[0xFF], 42, &[0xFF, 0x00, 0xFF]);
-    frame(judge, "12", 5, &[0xFF, 0xFF], 54, &[0xFF; 4]);
-    frame(judge, "13", 6, &[0xFF], 58, &[0xFF, 0x00, 0x00, 0x00, 0xFF]);
+    for row in FRAMES {
+        frame(judge, row);
+    }
     numbers(judge);
     let links = CODES.map(|code| METHODS.map(|method| (method, code)));
     for (method, code) in links.into_iter().flatten() {
@@ -210,28 +261,39 @@ fn read(judge: &mut Judge, code: u8, (row, method, parity, line, number, answer,
     expect(row, (told, got, output), (number, answer, wanted));
 }
 
-/// A written frame: its number of bits, and content and check inside it.
-fn frame(judge: &mut Judge, row: &str, method: u8, content: &[u8], bits: usize, inside: &[u8]) {
-    let (told, lent) = judge.write_frame(method, content, Room::Needed(0));
+/// A written frame: its number of bits, and content and check inside it. It
+/// reads as the bits that were claimed.
+fn frame(judge: &mut Judge, (row, method, claimed, content, bits, check): Frame) {
+    let (told, lent) = judge.write_frame(method, claimed, content, Room::Needed(0));
     expect(row, told, bits);
     judge.read_frame(method, bits, &lent, Room::Needed(0));
-    expect(row, lent, flagged(inside, bits));
+    let content = &digits(content)[..claimed];
+    let body = format!("{content}{}", digits(check)).replace("11111", "111110");
+    let line = format!("01111110{body}01111110");
+    expect(row, line.len(), bits);
+    let (mut out, mut value) = (vec![0xEE; claimed.div_ceil(8)], 0);
+    let number = corridor::codes::read_frame(method, bits, &lent, &mut out, &mut value);
+    expect(row, (number, value, out), (0, claimed, packed(content)));
+    expect(row, lent, packed(&line));
 }
 
-/// Content and check between flags, a zero after each five ones.
-fn flagged(inside: &[u8], bits: usize) -> Vec<u8> {
-    let body = (0..8 * inside.len())
-        .map(|place| char::from(b'0' + (inside[place / 8] >> (place % 8) & 1)));
-    let body = body.collect::<String>().replace("11111", "111110");
-    let line = format!("01111110{body}01111110");
-    expect("number of bits", line.len(), bits);
+/// The bits of bytes in the order sent, as digits.
+fn digits(bytes: &[u8]) -> String {
+    let bit = |place: usize| bytes[place / 8] >> (place % 8) & 1;
+    (0..8 * bytes.len())
+        .map(|place| char::from(b'0' + bit(place)))
+        .collect()
+}
+
+/// Digits in the order sent as bytes.
+fn packed(digits: &str) -> Vec<u8> {
     let byte = |eight: &[u8]| {
         eight
             .iter()
             .rev()
             .fold(0, |sum, digit| sum << 1 | (digit - b'0'))
     };
-    line.as_bytes().chunks(8).map(byte).collect()
+    digits.as_bytes().chunks(8).map(byte).collect()
 }
 
 /// Row 14: modulus 8, awaited 2; with the window 2 of document 02, and with 4.

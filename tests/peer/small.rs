@@ -219,7 +219,7 @@ fn contents(judge: &mut Judge, method: u8) {
     let one = (0..=255).map(|byte| vec![byte]);
     let two = (0..=u16::MAX).map(|both| both.to_le_bytes().to_vec());
     for content in one.chain(two) {
-        let (told, lent) = judge.write_frame(method, &content, Room::Needed(0));
+        let (told, lent) = judge.write_whole(method, &content, Room::Needed(0));
         judge.read_frame(method, told, &lent, Room::Needed(0));
         judge.checks(&content);
     }
@@ -254,8 +254,10 @@ fn codes(judge: &mut Judge) {
             &[0x7E, 0x5F, 0x00, 0x5F, 0xBD, 0x0F],
             Room::Needed(3),
         );
-        judge.write_frame(number, b"A", Room::Needed(3));
-        judge.write_frame(number, b"", Room::Needed(3));
+        for claimed in [0, 7, 8, 9] {
+            judge.write_frame(number, claimed, b"A", Room::Needed(3));
+            judge.write_frame(number, claimed, b"", Room::Needed(3));
+        }
     }
 }
 

@@ -97,9 +97,14 @@ impl Specimen {
         Specimen::of(Reader::Block(link), crate::lines::sealed(link, sent))
     }
 
-    /// A frame from its content.
+    /// A frame of a content of whole bytes.
     pub fn frame(method: u8, content: &[u8]) -> Specimen {
-        let line = frames::sealed(method, &bits::of_bytes(content));
+        Specimen::frame_of_bits(method, &bits::of_bytes(content))
+    }
+
+    /// A frame of a content of any number of bits.
+    pub fn frame_of_bits(method: u8, content: &[bool]) -> Specimen {
+        let line = frames::sealed(method, content);
         let reader = Reader::Frame {
             method,
             told: line.len(),

@@ -3,6 +3,8 @@
 
 use crate::counts::Counts;
 use crate::lines::LINKS;
+use crate::part_bytes::{numbered, BITS};
+use crate::peer::bits::of_bytes;
 use crate::peer::signs::{Code, Link, DLE, ETX, SOH, STX};
 use crate::property::may_differ;
 use crate::specimen::{Reader, Specimen};
@@ -56,6 +58,8 @@ pub fn specimens() -> Vec<Specimen> {
     for method in [5, 6] {
         specimens.extend(CONTENTS.map(|content| Specimen::frame(method, content)));
         specimens.extend(LONGER.map(|length| Specimen::frame(method, &repeated(&ANY, length))));
+        specimens.extend(BITS.map(|bits| numbered(method, bits, 0x1E5A)));
+        specimens.extend(LONGER.map(|length| longer_in_part(method, length)));
     }
     specimens
 }
@@ -85,6 +89,12 @@ fn longer_clear(link: Link, length: usize) -> Specimen {
         link,
         &[&[DLE, STX], first, &dle, second, &[DLE, ETX]].concat(),
     )
+}
+
+/// A frame of so many bytes without one to seven bits of the last.
+fn longer_in_part(method: u8, length: usize) -> Specimen {
+    let content = of_bytes(&repeated(&ANY, length));
+    Specimen::frame_of_bits(method, &content[..8 * length - 1 - length % 7])
 }
 
 pub fn run() {

@@ -41,8 +41,8 @@ fn questions(call: Call) -> &'static [usize] {
     match call {
         Call::ReadBlock => &[58, 11, 12, 13, 14, 15, 52, 53, 17, 18, 54, 19],
         Call::WriteBlock => &[58, 1, 4, 2, 3, 5, 6],
-        Call::ReadFrame => &[31, 32, 33, 34, 35, 36, 37, 38],
-        Call::WriteFrame => &[21, 22, 23],
+        Call::ReadFrame => &[31, 32, 33, 35, 36, 37, 38],
+        Call::WriteFrame => &[66, 21, 22, 23],
         Call::Receive => &[41, 51, 42, 43],
         Call::Submit => &[41, 51, 6, 57, 55],
         Call::Acknowledge => &[41, 51, 6, 56],
@@ -54,7 +54,7 @@ fn questions(call: Call) -> &'static [usize] {
     }
 }
 
-const NUMBERS: usize = 66;
+const NUMBERS: usize = 67;
 
 /// Methods 1 to 7, and 0 for every other code.
 const METHODS: usize = 8;

@@ -114,17 +114,23 @@ pub fn read_frame(method: u8, bits: usize, lent: &[u8], expected: &Expected, roo
     same(
         "typed read_frame",
         expected,
-        got.map(|length| vec![length]),
+        got.map(|bits| vec![bits]),
         &out,
     );
 }
 
-pub fn write_frame(method: u8, content: &[u8], expected: &Expected, room: usize) {
+/// Of so many bits of a content.
+pub fn write_frame(
+    method: u8,
+    (claimed, content): (usize, &[u8]),
+    expected: &Expected,
+    room: usize,
+) {
     let Some(method) = frame_method(method) else {
         return;
     };
     let mut out = before(room);
-    let got = corridor::write_frame(method, content, &mut out);
+    let got = corridor::write_frame(method, claimed, content, &mut out);
     same(
         "typed write_frame",
         expected,

@@ -23,7 +23,9 @@ fn zero_missing(index: usize, at: MissingZero) -> ReadRefusal
 }
 
 impl Line<'_> {
-    // The bits behind the whole bytes of the line: fewer than two bytes of content and check.
+    // The bits behind the whole bytes of the line: fewer than two bytes of content and check. Apart from the loop over whole bytes, which
+    // is slower where it stands behind it.
+    #[inline(never)]
     fn last(
         self,
         table: &[u32; 256],

@@ -46,8 +46,10 @@ impl BitWriter {
         }
     }
 
-    // Puts the lowest bits of a byte, fewer than eight, with the zeros that go into them.
-    pub(crate) fn put_bits(self, out: &mut [u8], byte: u8, bits: u32) -> BitWriter
+    // Puts the lowest bits of a byte, fewer than eight, with the zeros that go into them. Apart from the loops over whole bytes, which are
+    // slower where it stands between them.
+    #[inline(never)]
+    fn put_bits(self, out: &mut [u8], byte: u8, bits: u32) -> BitWriter
         requires { (bits < 8) × (bits_before self.count.at + length (stuff (run_before self.count.before) (low_bits bits byte)) ≤ 8 * length out.old) }
         ensures { Puts out.old self (low_bits bits byte) out.new result }
     {
@@ -69,6 +71,17 @@ impl BitWriter {
             count,
             held: rest >> 8,
         }
+    }
+
+    // Puts the last bits of a content. Most contents have none.
+    pub(crate) fn put_last(self, out: &mut [u8], byte: u8, bits: u32) -> BitWriter
+        requires { (bits < 8) × (bits_before self.count.at + length (stuff (run_before self.count.before) (low_bits bits byte)) ≤ 8 * length out.old) }
+        ensures { Puts out.old self (low_bits bits byte) out.new result }
+    {
+        if bits == 0 {
+            return self;
+        }
+        self.put_bits(&mut *out, byte, bits)
     }
 
     pub(crate) fn put_bytes(self, out: &mut [u8], bytes: &[u8]) -> BitWriter

@@ -19,7 +19,7 @@ impl Checked<'_> {
     {
         out[0] = FLAG;
         let body = BitWriter::open().put_bytes(&mut *out, self.content.bytes);
-        let rest = body.put_bits(&mut *out, self.content.last, self.content.bits);
+        let rest = body.put_last(&mut *out, self.content.last, self.content.bits);
         let tail = rest.put_bytes(&mut *out, self.check);
         tail.put_flag(&mut *out).bits()
     }

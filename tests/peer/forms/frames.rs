@@ -1,6 +1,7 @@
 //! Runs of ones across every border of a frame. Zeros go in and out a byte at
 //! a time behind the last four or five bits of the line, the inserted ones
-//! shift all that follows, and an output of n + n/4 + 16 bytes is not measured.
+//! shift all that follows, a content that ends inside a byte shifts its check,
+//! and an output of n + n/4 + 16 bytes is not measured.
 
 use crate::frames::sealed;
 use crate::judge::{Judge, Room};
@@ -26,18 +27,19 @@ pub fn run(judge: &mut Judge, random: &mut Random) {
     pairs(judge);
 }
 
-/// A content written with outputs around what is needed and around what is
-/// not measured, and read back with outputs around its length. Gives the bits
-/// of the frame and their number.
-fn both_ways(judge: &mut Judge, method: u8, content: &[u8]) -> (Vec<u8>, usize) {
-    let most = content.len() + content.len() / 4 + 16;
+/// So many bits of a content written with outputs around what is needed and
+/// around what is not measured, and read back with outputs around its length.
+/// Gives the bits of the frame and their number.
+fn both_ways(judge: &mut Judge, method: u8, claimed: usize, content: &[u8]) -> (Vec<u8>, usize) {
+    let whole = claimed / 8;
+    let most = whole + whole / 4 + 16;
     for room in most - 1..=most + 1 {
-        judge.write_frame(method, content, Room::Bytes(room));
+        judge.write_frame(method, claimed, content, Room::Bytes(room));
     }
     for more in [-1, 1] {
-        judge.write_frame(method, content, Room::Needed(more));
+        judge.write_frame(method, claimed, content, Room::Needed(more));
     }
-    let (told, lent) = judge.write_frame(method, content, Room::Needed(0));
+    let (told, lent) = judge.write_frame(method, claimed, content, Room::Needed(0));
     for more in [-1, 0, 1] {
         judge.read_frame(method, told, &lent, Room::Needed(more));
     }
@@ -57,62 +59,84 @@ fn damaged(judge: &mut Judge, method: u8, (mut lent, told): (Vec<u8>, usize)) {
 }
 
 /// A run of ones, of 1 to 30 from each of the first 41 bits on, among zeros,
-/// among single ones and among ones in pairs.
+/// among single ones and among ones in pairs: in 64 bits, and cut within three
+/// bits behind the run.
 fn runs(judge: &mut Judge, method: u8) {
     for (start, length) in (0..=40).flat_map(|start| (1..=30).map(move |length| (start, length))) {
         for rest in [0x00_u8, 0x55, 0xAA, 0xB6] {
             let run = ((1_u64 << length) - 1) << start;
             let content = (run | u64::from_le_bytes([rest; 8])).to_le_bytes();
-            let frame = both_ways(judge, method, &content);
+            let frame = both_ways(judge, method, 64, &content);
             if rest == 0x00 || (rest == 0xAA && method == 5) {
                 damaged(judge, method, frame);
+            }
+            let end = (start + length) as usize;
+            for claimed in (end.max(2) - 1..end + 4).filter(|claimed| *claimed < 64) {
+                let frame = both_ways(judge, method, claimed, &content);
+                if rest == 0x00 && method == 5 && claimed == end {
+                    damaged(judge, method, frame);
+                }
             }
         }
     }
 }
 
 /// Every byte at every place of a byte of the line and behind every run: each
-/// 1F shifts what follows by one inserted zero.
+/// 1F shifts what follows by one inserted zero. The last byte once whole and
+/// once in part.
 fn shifted(judge: &mut Judge, method: u8) {
     for (shift, before) in (0..8).flat_map(|shift| LEAVING.map(|before| (shift, before))) {
         for (byte, after) in (0..=255).flat_map(|byte| MEETING.map(|after| (byte, after))) {
             let content = [&[0x1F; 8][..shift], &[before, byte, after]].concat();
-            let (told, lent) = judge.write_frame(method, &content, Room::Needed(0));
-            judge.write_frame(method, &content, Room::Needed(16));
-            judge.read_frame(method, told, &lent, Room::Needed(0));
+            let all = 8 * content.len();
+            for claimed in [all, all - 1 - usize::from(byte) % 7] {
+                let (told, lent) = judge.write_frame(method, claimed, &content, Room::Needed(0));
+                judge.write_frame(method, claimed, &content, Room::Needed(16));
+                judge.read_frame(method, told, &lent, Room::Needed(0));
+            }
         }
     }
 }
 
-/// Every two bytes side by side, behind every run.
+/// Every two bytes side by side, behind every run: followed by a whole byte,
+/// and the second one cut.
 fn pairs(judge: &mut Judge) {
     for both in 0..=u16::MAX {
         let [first, second] = both.to_le_bytes();
         for before in LEAVING {
             let content = [before, first, second, 0x1F];
-            let (told, lent) = judge.write_frame(5, &content, Room::Needed(0));
-            judge.read_frame(5, told, &lent, Room::Needed(0));
+            for claimed in [32, 17 + usize::from(first ^ before) % 8] {
+                let (told, lent) = judge.write_frame(5, claimed, &content, Room::Needed(0));
+                judge.read_frame(5, told, &lent, Room::Needed(0));
+            }
         }
     }
 }
 
-/// Contents of every length over where checks start to fold.
+/// Contents of every number of bits over where checks start to fold.
 fn lengths(judge: &mut Judge, random: &mut Random, method: u8) {
-    for length in 1..=136 {
+    for claimed in 1..=8 * 136_usize {
+        let length = claimed.div_ceil(8);
         for content in [random.bytes(length), vec![0x00; length], vec![0xFF; length]] {
-            both_ways(judge, method, &content);
+            both_ways(judge, method, claimed, &content);
         }
     }
 }
 
 /// Frames whose last checked bits are five ones, so that an inserted zero
 /// stands before the closing flag, which begins at each of the eight places of
-/// a byte: damaged, and without that zero.
+/// a byte: damaged, and without that zero. The last byte of the content lacks
+/// none to seven bits.
 fn closings(judge: &mut Judge, method: u8) {
-    for place in 0..8 {
-        let found = (0..=u16::MAX).filter_map(|number| closing(method, place, number));
-        let found: Vec<Vec<bool>> = found.take(8).collect();
-        assert_eq!(found.len(), 8, "method {method}, place {place}");
+    for (place, cut) in (0..8).flat_map(|place| (0..8).map(move |cut| (place, cut))) {
+        let found = (0..=u16::MAX).filter_map(|number| closing(method, place, cut, number));
+        let wanted = if cut == 0 { 8 } else { 2 };
+        let found: Vec<Vec<bool>> = found.take(wanted).collect();
+        assert_eq!(
+            found.len(),
+            wanted,
+            "method {method}, place {place}, cut {cut}"
+        );
         for line in found {
             let told = line.len();
             damaged(judge, method, (to_bytes(&line), told));
@@ -123,12 +147,15 @@ fn closings(judge: &mut Judge, method: u8) {
     }
 }
 
-/// The frame of a numbered content, if the bit before its closing flag is an
-/// inserted zero and the flag begins at that place of a byte. The zero itself
-/// shifts the flag by one, and each 1F before the number by one more.
-fn closing(method: u8, place: usize, number: u16) -> Option<Vec<bool>> {
-    let content = [&[0x1F; 8][..(place + 7) % 8], &number.to_le_bytes()].concat();
-    let line = sealed(method, &of_bytes(&content));
+/// The frame of a numbered content without its last few bits, if the bit before
+/// its closing flag is an inserted zero and the flag begins at that place of a
+/// byte. The zero itself shifts the flag by one, and each 1F before the number
+/// by one more.
+fn closing(method: u8, place: usize, cut: usize, number: u16) -> Option<Vec<bool>> {
+    let before = &[0x1F; 8][..(place + cut + 7) % 8];
+    let mut content = of_bytes(&[before, &number.to_le_bytes()].concat());
+    content.truncate(content.len() - cut);
+    let line = sealed(method, &content);
     let flag = line.len() - FLAG.len();
     let body = frame::frame(method, line.len(), &to_bytes(&line)).ok()?;
     let closes = body.inserted.last() == Some(&(flag - 1));

@@ -1,4 +1,6 @@
-//! Writing and reading of one frame, methods 5 and 6, as vectors of bits.
+//! Writing and reading of one frame, methods 5 and 6, as vectors of bits. The
+//! content is any number of bits (document 02, card 13); the check covers them
+//! alone, and nothing here asks whether they fill bytes.
 
 use super::bits;
 use super::division::{Rule, APPENDIX_1, APPENDIX_2};
@@ -16,22 +18,33 @@ pub fn rule(method: u8) -> &'static Rule {
     }
 }
 
-/// The most content bytes of a frame.
+/// The most content bits of a frame.
 pub fn longest_content(method: u8) -> usize {
     if method == 5 {
-        4_096
+        32_768
     } else {
-        65_536
+        524_288
     }
 }
 
-/// Writes the bits of a frame: questions 21 and 22.
-pub fn write(method: u8, content: &[u8]) -> Result<Vec<bool>, Refusal> {
+/// The first so many bits of the bytes lent, where they hold as many.
+fn first_bits(claimed: usize, lent: &[u8]) -> Option<Vec<bool>> {
+    let mut all = bits::of_bytes(lent);
+    if claimed > all.len() {
+        return None;
+    }
+    all.truncate(claimed);
+    Some(all)
+}
+
+/// Writes the bits of a frame, its content the claimed bits of the bytes lent:
+/// questions 66, 21 and 22.
+pub fn write(method: u8, claimed: usize, lent: &[u8]) -> Result<Vec<bool>, Refusal> {
+    let content = first_bits(claimed, lent).ok_or(Refusal::plain(66))?;
     ask(!content.is_empty(), Refusal::plain(21))?;
     ask(content.len() <= longest_content(method), Refusal::plain(22))?;
-    let mut checked = bits::of_bytes(content);
-    checked.extend(rule(method).check(&checked));
-    Ok(between_flags(&checked))
+    let check = rule(method).check(&content);
+    Ok(between_flags(&[content, check].concat()))
 }
 
 /// Puts bits between two flags, a zero inserted after each five ones.
@@ -85,33 +98,26 @@ fn body(told: &[bool]) -> Result<Body, Refusal> {
     Ok(body)
 }
 
-/// Finds the framing of a frame: questions 31 to 36.
+/// Finds the framing of a frame: questions 31 to 33, 35 and 36.
 pub fn frame(method: u8, bits: usize, lent: &[u8]) -> Result<Body, Refusal> {
-    ask(bits as u128 <= 8 * lent.len() as u128, Refusal::plain(31))?;
-    ask(bits >= 2 * FLAG.len(), Refusal::plain(32))?;
-    let mut told = bits::of_bytes(lent);
-    told.truncate(bits);
-    ask(
-        told.starts_with(&FLAG) && told.ends_with(&FLAG),
-        Refusal::plain(32),
-    )?;
+    let told = first_bits(bits, lent).ok_or(Refusal::plain(31))?;
+    ask(told.len() >= 2 * FLAG.len(), Refusal::plain(32))?;
+    let flags = told.starts_with(&FLAG) && told.ends_with(&FLAG);
+    ask(flags, Refusal::plain(32))?;
     let body = body(&told)?;
-    let left = body.checked.len();
-    ask(left % 8 == 0, Refusal::plain(34))?;
-    let width = rule(method).width();
-    ask(left >= width + 8, Refusal::plain(35))?;
-    ask(
-        left - width <= 8 * longest_content(method),
-        Refusal::plain(36),
-    )?;
+    let content = body.checked.len().checked_sub(rule(method).width());
+    let content = content.filter(|bits| *bits > 0);
+    let content = content.ok_or(Refusal::plain(35))?;
+    ask(content <= longest_content(method), Refusal::plain(36))?;
     Ok(body)
 }
 
-/// Takes a frame and gives its content: questions 31 to 37.
-pub fn take(method: u8, bits: usize, lent: &[u8]) -> Result<Vec<u8>, Refusal> {
-    let body = frame(method, bits, lent)?;
+/// Takes a frame and gives the bits of its content: questions 31 to 33 and 35
+/// to 37.
+pub fn take(method: u8, bits: usize, lent: &[u8]) -> Result<Vec<bool>, Refusal> {
+    let mut checked = frame(method, bits, lent)?.checked;
     let rule = rule(method);
-    ask(rule.accepts(&body.checked), Refusal::plain(37))?;
-    let content = body.checked.len() - rule.width();
-    Ok(bits::to_bytes(&body.checked[..content]))
+    ask(rule.accepts(&checked), Refusal::plain(37))?;
+    checked.truncate(checked.len() - rule.width());
+    Ok(checked)
 }

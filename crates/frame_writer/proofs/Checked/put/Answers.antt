@@ -21,8 +21,8 @@ put_bytes-body-requires c =
     room (body f) (last f ++ tail f) (put_begin (set out 0 0x7E) c.open.result (checked f)) (parts f)
     (omega (arith, c.requires, length-set out 0 0x7E, opened-length c.open.ensures.0 (checked f)))
 
-pub put_bits-rest-requires : goal.put_bits-rest-requires
-put_bits-rest-requires c =
+pub put_last-rest-requires : goal.put_last-rest-requires
+put_last-rest-requires c =
     let p = c.put_bytes-body in
     let f = c.args.self in
     let out = c.args.out.now in (
@@ -34,7 +34,7 @@ put_bits-rest-requires c =
 pub put_bytes-tail-requires : goal.put_bytes-tail-requires
 put_bytes-tail-requires c =
     let p = c.put_bytes-body in
-    let q = c.put_bits-rest in
+    let q = c.put_last-rest in
     let f = c.args.self in
     let out = c.args.out.now in
     room (tail f) [] (last_put f p.ensures p.auto.out q.ensures q.auto.out) (sym (append-nil (tail f)))
@@ -43,7 +43,7 @@ put_bytes-tail-requires c =
 pub put_flag-requires : goal.put_flag-requires
 put_flag-requires c =
     let p = c.put_bytes-body in
-    let q = c.put_bits-rest in
+    let q = c.put_last-rest in
     let r = c.put_bytes-tail in
     let f = c.args.self in
     let k = all_put f p.ensures p.auto.out q.ensures q.auto.out r.ensures r.auto.out in
@@ -52,7 +52,7 @@ put_flag-requires c =
 pub bits-requires : goal.bits-requires
 bits-requires c =
     let p = c.put_bytes-body in
-    let q = c.put_bits-rest in
+    let q = c.put_last-rest in
     let r = c.put_bytes-tail in
     let f = c.args.self in
     let k = all_put f p.ensures p.auto.out q.ensures q.auto.out r.ensures r.auto.out in
@@ -62,7 +62,7 @@ pub returns : goal.returns
 unfolding write_output
 returns c =
     let p = c.put_bytes-body in
-    let q = c.put_bits-rest in
+    let q = c.put_last-rest in
     let r = c.put_bytes-tail in
     let g = c.put_flag in
     let f = c.args.self in
