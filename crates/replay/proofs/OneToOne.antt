@@ -1,7 +1,7 @@
 -- Document 02's numbers tell every answer of a reader apart: each is read back from its outcome. Assumes nothing.
 use Rattle.std.proofs.Common.{◌≡◌, ℕ, false, cond, eqb, Result, Ok, Err, sym, refl, ap, ◌∙◌}
 use Rattle.sender.specs.declared.SenderRefusal.{SenderRefusal}
-use Rattle.sender.specs.declared.SenderRefusal.TheVariants.{Modulus, Record, StoreShort, TooLong, Full, NotStored}
+use Rattle.sender.specs.declared.SenderRefusal.TheVariants.{Modulus, Record, TooShort, TooLong, Full, NotStored, OrderPending}
 use Rattle.sender.specs.Answers as sender
 use Rattle.sender.proofs.OneToOne as numbers
 use Rattle.replay.specs.declared.ReplayRefusal.{ReplayRefusal}
@@ -16,10 +16,11 @@ refusal_from number value =
 no_trace_number : (r : SenderRefusal) → (eqb (sender.number_of r) 61 ≡ false) × (eqb (sender.number_of r) 62 ≡ false)
 no_trace_number Modulus = (refl, refl)
 no_trace_number Record = (refl, refl)
-no_trace_number (StoreShort needed) = (refl, refl)
+no_trace_number (TooShort needed) = (refl, refl)
 no_trace_number TooLong = (refl, refl)
 no_trace_number Full = (refl, refl)
 no_trace_number NotStored = (refl, refl)
+no_trace_number OrderPending = (refl, refl)
 
 refusal_back : (r : ReplayRefusal) → refusal_from (number_of r) (value_of r) ≡ r
 unfolding refusal_from

@@ -16,6 +16,9 @@ pub(crate) fn fresh() -> Station
         stored: 0,
         cell: 0,
         lengths: [0; 7],
+        method: 0,
+        former: 0,
+        older: 0,
     }
 }
 

@@ -3,9 +3,10 @@ use Rattle.std.proofs.Common.{◌≡◌, ℕ, ◌+◌, ◌-◌, ◌*◌, ◌≤�
 use lib.Seq.{sets, sets-eq, drop-drop}
 use borrow.Rule.Slice.PartMut.{put_mid}
 use Rattle.bits.specs.Calls.{called}
+use Rattle.orders.specs.declared.CyclicMethod.{CyclicMethod}
 use Rattle.sender.specs.declared.Station.{Station}
 use Rattle.sender.specs.Ring.{submitted_after}
-use Rattle.sender.specs.Sender.{storing, freeing, Outcome, clear, no, of_submission, of_number, refused, by_verdict, submitting, after_submitting, submit_call, with_latest, acknowledging}
+use Rattle.sender.specs.Sender.{storing, freeing, Outcome, clear, no, of_submission, of_number, of_order, refused, by_verdict, submitting, after_submitting, submit_call, with_latest, acknowledging, with_method, changing, ordering}
 use Rattle.sender.specs.Answers.{told}
 
 -- a part of a slice copied over
@@ -44,3 +45,13 @@ module _ (n w : ℕ) (s : Station) where
     acknowledge_done q {left} e f =
         ap (told (Ok (s.stored - left))) f ∙ ap (λ k. told (Ok (s.stored - k)) (with_latest s k)) e
         ∙ ap (λ v. by_verdict v s (freeing s (submitted_after n s number))) q
+
+  module _ (m : CyclicMethod) where
+    pub order_refused : {k value : ℕ} {o : Outcome} → o ≡ record { answer = refused k value; station = s } → no k value ≡ of_order n w s
+        → o ≡ ordering n w s m
+    unfolding ordering
+    order_refused e q = e ∙ ap (λ v. by_verdict v s (changing s m)) q
+
+    pub order_done : clear ≡ of_order n w s → {after : Station} → after ≡ with_method s m → told (Ok s.next) after ≡ ordering n w s m
+    unfolding ordering
+    order_done q e = ap (told (Ok s.next)) e ∙ ap (λ v. by_verdict v s (changing s m)) q

@@ -1,9 +1,9 @@
 -- The questions as code asks them: behind those that were passed, the others. Assumes nothing.
-use Rattle.std.proofs.Common.{◌≡◌, ℕ, ◌*◌, ◌^◌, ◌<◌, ◌≤◌, le-leb, lt-ltb, le-ltb}
+use Rattle.std.proofs.Common.{◌≡◌, ℕ, ◌*◌, ◌^◌, ◌<◌, ◌≤◌, le-leb, lt-ltb, le-ltb, eq-eqb, ne_eqb}
 use borrow.Author.Tests.{lt-leb}
 use Rattle.sender.specs.declared.Station.{Station}
 use Rattle.sender.specs.Ring.{submitted_after}
-use Rattle.sender.specs.Sender.{Verdict, clear, no, of_record, of_store, of_submission, of_number}
+use Rattle.sender.specs.Sender.{Verdict, clear, no, of_record, of_store, of_submission, of_number, of_order}
 
 module _ (n w : ℕ) (s : Station) (size : ℕ) where
   -- ---- behind 41 and 51
@@ -41,3 +41,14 @@ module _ (n w : ℕ) (s : Station) (size : ℕ) where
     pub number_stored : (number : ℕ) → number < 2 ^ n → submitted_after n s number < s.stored → clear ≡ of_number n w s size number
     unfolding of_number
     number_stored number h i = rw (lt-ltb number (2 ^ n) h, lt-ltb (submitted_after n s number) s.stored i) (behind clear)
+
+-- ---- an order
+
+module _ (n w : ℕ) (s : Station) (behind : (next : Verdict) → next ≡ of_record n w s next) where
+  pub order_pending : (s.older ≡ 0 → ⊥) → no 67 0 ≡ of_order n w s
+  unfolding of_order
+  order_pending h = rw (ne_eqb s.older 0 h) (behind (no 67 0))
+
+  pub order_free : s.older ≡ 0 → clear ≡ of_order n w s
+  unfolding of_order
+  order_free h = rw (eq-eqb s.older 0 h) (behind clear)

@@ -3,6 +3,7 @@ pub mod Passed
 pub mod Asking
 pub mod OneToOne
 pub mod Cells
+pub mod Lines
 pub mod Outcomes
 pub mod Histories
 pub mod Answering

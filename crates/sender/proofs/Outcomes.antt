@@ -3,10 +3,11 @@ use Rattle.std.proofs.Common.{◌≡◌, ℕ, ◌-◌, ◌*◌, List, length, Re
 use lib.Seq.{sets}
 use Rattle.bits.specs.Calls as calls
 use Rattle.bits.specs.Calls.{called}
+use Rattle.orders.specs.declared.CyclicMethod.{CyclicMethod}
 use Rattle.sender.specs.declared.Station.{Station}
 use Rattle.sender.specs.declared.SenderRefusal.{SenderRefusal}
 use Rattle.sender.specs.Ring.{submitted_after}
-use Rattle.sender.specs.Sender.{storing, freeing, Verdict, clear, no, of_submission, of_number, Answer, done, refused, Outcome, by_verdict, with_block, submitting, store_after, submit_call, with_latest, acknowledging}
+use Rattle.sender.specs.Sender.{storing, freeing, Verdict, clear, no, of_submission, of_number, of_order, Answer, done, refused, Outcome, by_verdict, with_block, submitting, store_after, submit_call, with_latest, acknowledging, with_method, changing, ordering}
 use Rattle.sender.specs.History.{AltersNothing}
 use Rattle.sender.specs.Answers.{number_of, value_of, answer_of, told}
 
@@ -71,10 +72,26 @@ module _ (n w : ℕ) (s : Station) (size number : ℕ) (a : Result ℕ SenderRef
   unfolding acknowledging
   acknowledgement_refused q = by_err (of_number n w s size number) s (freeing s (submitted_after n s number)) refl e q
 
+-- ---- an order
+
+module _ (n w : ℕ) (s : Station) (m : CyclicMethod) (a : Result ℕ SenderRefusal) {s' : Station} (e : told a s' ≡ ordering n w s m) where
+  pub order_done : {k : ℕ} → a ≡ Ok k → (of_order n w s ≡ clear) × (k ≡ s.next) × (s' ≡ with_method s m)
+  unfolding ordering
+  order_done {k} q =
+      let f = by_done (of_order n w s) s (changing s m) e q in
+      let same : done k ≡ done s.next = f.1 in
+      let number : k ≡ s.next = cc in
+      (f.0, number, f.2)
+
+  pub order_refused : {r : SenderRefusal} → a ≡ Err r → s' ≡ s
+  unfolding ordering
+  order_refused q = by_err (of_order n w s) s (changing s m) refl e q
+
 -- document 02, card 6: a refused call alters nothing
 pub alters_nothing : AltersNothing
 alters_nothing =
     record {
       submitting = λ n w s store block after r x e q. submission_refused n w s store block r.answer e q;
       acknowledging = λ n w s size number r x e q. acknowledgement_refused n w s size number r.answer e q;
+      ordering = λ n w s m r x e q. order_refused n w s m r.answer e q;
     }

@@ -1,13 +1,14 @@
 -- The questions: what passes each of them, and what has passed them all. Assumes nothing.
-use Rattle.std.proofs.Common.{◌≡◌, ℕ, ◌*◌, ◌^◌, ◌<◌, ◌≤◌, Bool, true, false, ap, ◌&&◌, ◌⊎◌, inl, inr, leb, ltb, refl, sym, ◌∙◌, arith, le-leb, lt-ltb, leb-true, ltb-true, nat_le}
+use Rattle.std.proofs.Common.{◌≡◌, ℕ, ◌*◌, ◌^◌, ◌<◌, ◌≤◌, Bool, true, false, ap, ◌&&◌, ◌⊎◌, inl, inr, leb, ltb, refl, sym, ◌∙◌, arith, le-leb, lt-ltb, leb-true, ltb-true, eqb, eqb-true, eq-eqb, nat_le}
 use borrow.Author.Tests.{lt-leb}
 use mathlib.Core.Bool.{and-false}
 use Rattle.std.specs.List.{list_all}
 use Rattle.bits.proofs.Tests.{ask-passed}
 use Rattle.number.specs.Number.{within}
+use Rattle.orders.specs.Methods.{is_method}
 use Rattle.sender.specs.declared.Station.{Station}
 use Rattle.sender.specs.Ring.{submitted_after}
-use Rattle.sender.specs.Sender.{Verdict, clear, no, ask, window_right, record_right, of_record, of_store, of_submission, is_stored, of_number}
+use Rattle.sender.specs.Sender.{Verdict, clear, no, ask, window_right, record_right, of_record, of_store, of_submission, is_stored, of_number, of_order}
 use Rattle.sender.specs.Right.{Right}
 
 -- ---- one question
@@ -52,7 +53,10 @@ module _ (n w : ℕ) (s : Station) where
       let d = both (leb 1 n) (leb n 7) (a.0) in
       let f = both (within 1 7 w) (ltb w (2 ^ n)) (b.0) in
       let g = both (leb 1 w) (leb w 7) (f.0) in
-      let h = both (leb s.stored w && ltb s.cell w && ltb s.next (2 ^ n)) (list_all (λ len. nat_le len 4095) s.lengths) (c.0) in
+      let k = both (leb s.stored w && ltb s.cell w && ltb s.next (2 ^ n) && list_all (λ len. nat_le len 4095) s.lengths && leb s.older s.stored && is_method s.method) (is_method s.former) (c.0) in
+      let l = both (leb s.stored w && ltb s.cell w && ltb s.next (2 ^ n) && list_all (λ len. nat_le len 4095) s.lengths && leb s.older s.stored) (is_method s.method) (k.0) in
+      let m = both (leb s.stored w && ltb s.cell w && ltb s.next (2 ^ n) && list_all (λ len. nat_le len 4095) s.lengths) (leb s.older s.stored) (l.0) in
+      let h = both (leb s.stored w && ltb s.cell w && ltb s.next (2 ^ n)) (list_all (λ len. nat_le len 4095) s.lengths) (m.0) in
       let i = both (leb s.stored w && ltb s.cell w) (ltb s.next (2 ^ n)) (h.0) in
       let j = both (leb s.stored w) (ltb s.cell w) (i.0) in (
         record {
@@ -61,6 +65,9 @@ module _ (n w : ℕ) (s : Station) where
           cell_below = ltb-true s.cell w (j.1);
           next_below = ltb-true s.next (2 ^ n) (i.1);
           lengths_most = h.1;
+          older_most = leb-true s.older s.stored (m.1);
+          method_kept = l.1;
+          former_kept = k.1;
         },
         c.1,
       )
@@ -78,6 +85,9 @@ module _ (n w : ℕ) (s : Station) where
         lt-ltb s.cell w (z.cell_below),
         lt-ltb s.next (2 ^ n) (z.next_below),
         z.lengths_most,
+        le-leb s.older s.stored (z.older_most),
+        z.method_kept,
+        z.former_kept,
       )
 
 -- ---- all questions of a call
@@ -129,3 +139,17 @@ module _ (n w : ℕ) (s : Station) (size : ℕ) where
   pub number_refused : (number : ℕ) → Ready n w s size → is_stored n s number ≡ false → of_number n w s size number ≡ no 56 0
   unfolding of_number
   number_refused number z h = ready_passes _ z ∙ ap (λ t. ask t 56 0 clear) h
+
+-- ---- an order
+
+module _ (n w : ℕ) (s : Station) where
+  pub order_passed : of_order n w s ≡ clear → Right n w s × (s.older ≡ 0)
+  unfolding of_order
+  order_passed e =
+      let a = record_passed n w s e in
+      let b = ask-passed (eqb s.older 0) apart (a.1) in
+      (a.0, eqb-true s.older 0 (b.0))
+
+  pub order_passes : Right n w s → s.older ≡ 0 → of_order n w s ≡ clear
+  unfolding of_order
+  order_passes z h = right_passes n w s (ask (eqb s.older 0) 67 0 clear) z ∙ rw (eq-eqb s.older 0 h)

@@ -1,16 +1,17 @@
 -- Every call has a result as its contract promises it: the questions are answered no by refusals alone. Assumes nothing.
-use Rattle.std.proofs.Common.{◌≡◌, ℕ, ◌-◌, ◌*◌, Bool, true, false, cond, List, length, Ok, Err, nat_le, nat_lt, refl, sym}
+use Rattle.std.proofs.Common.{◌≡◌, ℕ, ◌-◌, ◌*◌, Bool, true, false, cond, ◌==◌, List, length, Ok, Err, nat_le, nat_lt, refl, sym}
 use lib.Seq.{sets}
 use Rattle.bits.specs.Calls.{called}
 use Rattle.number.specs.Number.{within}
+use Rattle.orders.specs.declared.CyclicMethod.{CyclicMethod}
 use Rattle.sender.specs.declared.Station.{Station}
 use Rattle.sender.specs.declared.SenderRefusal.{SenderRefusal}
-use Rattle.sender.specs.declared.SenderRefusal.TheVariants.{Modulus, Record, StoreShort, TooLong, Full, NotStored}
+use Rattle.sender.specs.declared.SenderRefusal.TheVariants.{Modulus, Record, TooShort, TooLong, Full, NotStored, OrderPending}
 use Rattle.sender.specs.declared.SenderResult.{SenderResult}
 use Rattle.sender.specs.Ring.{submitted_after}
-use Rattle.sender.specs.Sender.{Verdict, clear, no, window_right, record_right, of_record, of_store, of_submission, is_stored, of_number, with_block, with_latest, submit_call, acknowledging}
+use Rattle.sender.specs.Sender.{Verdict, clear, no, window_right, record_right, of_record, of_store, of_submission, is_stored, of_number, of_order, with_block, with_latest, submit_call, acknowledging, with_method, ordering}
 use Rattle.sender.specs.Answers.{number_of, value_of, outcome_of}
-use Rattle.sender.proofs.Answering.{submit_refused, submit_done, acknowledge_refused, acknowledge_done}
+use Rattle.sender.proofs.Answering.{submit_refused, submit_done, acknowledge_refused, acknowledge_done, order_refused, order_done}
 
 -- ---- the questions
 
@@ -27,7 +28,7 @@ module _ (n w : ℕ) (s : Station) (size : ℕ) where
   unfolding of_record
   told_store t =
       asked (within 1 7 n) Modulus
-      (asked (window_right n w) Record (asked (record_right n w s) Record (asked (nat_le (w * 4096) size) (StoreShort (w * 4096)) t)))
+      (asked (window_right n w) Record (asked (record_right n w s) Record (asked (nat_le (w * 4096) size) (TooShort (w * 4096)) t)))
 
   told_submission : (len : ℕ) → Told (of_submission n w s size len)
   unfolding of_submission
@@ -36,6 +37,12 @@ module _ (n w : ℕ) (s : Station) (size : ℕ) where
   told_number : (number : ℕ) → Told (of_number n w s size number)
   unfolding of_number
   told_number number = told_store (asked (is_stored n s number) NotStored passed)
+
+told_order : (n w : ℕ) (s : Station) → Told (of_order n w s)
+unfolding of_order of_record
+told_order n w s =
+    asked (within 1 7 n) Modulus
+    (asked (window_right n w) Record (asked (record_right n w s) Record (asked (s.older == 0) OrderPending passed)))
 
 -- ---- the calls
 
@@ -77,3 +84,15 @@ acknowledgement n w s size number = go (told_number n w s size number) refl
         }
     go (told r) e =
         record { result = record { answer = Err r; after = s }; meets = acknowledge_refused n w s size number refl (sym e) }
+
+pub record Change (n w : ℕ) (s : Station) (m : CyclicMethod) : Type 0 where
+  pub result : SenderResult
+  pub meets : outcome_of result ≡ ordering n w s m
+
+pub change : (n w : ℕ) (s : Station) (m : CyclicMethod) → Change n w s m
+change n w s m = go (told_order n w s) refl
+  where
+    go : {v : Verdict} → Told v → of_order n w s ≡ v → Change n w s m
+    go passed e =
+        record { result = record { answer = Ok s.next; after = with_method s m }; meets = order_done n w s m (sym e) refl }
+    go (told r) e = record { result = record { answer = Err r; after = s }; meets = order_refused n w s m refl (sym e) }

@@ -11,7 +11,7 @@ use crate::ring::submitted_after;
 use crate::{SenderRefusal, SenderResult, Station};
 
 // A refused call leaves the record.
-fn refused(station: Station, refusal: SenderRefusal) -> SenderResult
+pub(crate) fn refused(station: Station, refusal: SenderRefusal) -> SenderResult
     ensures { outcome_of result ≡ told (Err refusal) station }
 {
     SenderResult {

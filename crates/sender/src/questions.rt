@@ -6,6 +6,7 @@ ghost use Rattle.sender.specs.Answers.{after_asked};
 
 use crate::ring::{modulus, submitted_after};
 use crate::{SenderRefusal, Station};
+use orders::is_method;
 
 // The bytes of a cell, and the most that a block may have.
 pub(crate) const CELL: usize = 4096;
@@ -33,6 +34,9 @@ fn record_right(n: u8, w: u8, station: Station) -> bool
         & (station.cell < w)
         & (station.next < modulus(n))
         & lengths_right(station)
+        & (station.older <= station.stored)
+        & is_method(station.method)
+        & is_method(station.former)
 }
 
 // 41 and 51.
@@ -58,7 +62,7 @@ pub fn ask_store(n: u8, w: u8, station: Station, size: usize) -> Result<(), Send
     ask_record(n, w, station)?;
     let needed = w as usize * CELL;
     if size < needed {
-        return Err(SenderRefusal::StoreShort(needed));
+        return Err(SenderRefusal::TooShort(needed));
     }
     Ok(())
 }
@@ -99,6 +103,17 @@ pub(crate) fn ask_number(
     }
     if station.stored <= submitted_after(n, station.next, number) {
         return Err(SenderRefusal::NotStored);
+    }
+    Ok(())
+}
+
+// 41, 51 and 67.
+pub(crate) fn ask_order(n: u8, w: u8, station: Station) -> Result<(), SenderRefusal>
+    ensures { after_asked result rule.clear ≡ rule.of_order n w station }
+{
+    ask_record(n, w, station)?;
+    if station.older != 0 {
+        return Err(SenderRefusal::OrderPending);
     }
     Ok(())
 }

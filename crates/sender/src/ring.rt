@@ -18,7 +18,7 @@ pub(crate) fn next(m: u8, x: u8) -> u8
 }
 
 // From x, d + 1 steps back.
-fn back(m: u8, x: u8, d: u8) -> u8
+pub(crate) fn back(m: u8, x: u8, d: u8) -> u8
     requires m_most { m ≤ 128 }
     requires x_below { x < m }
     requires d_below { d < m }

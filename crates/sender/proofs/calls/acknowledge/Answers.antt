@@ -24,3 +24,8 @@ pub returns-in-Ok : goal.returns-in-Ok
 returns-in-Ok c =
     let a = c.args in
     acknowledge_done a.n a.w a.station (length a.store.now) a.number c.in-Ok.ensures c.submitted_after-left.ensures c.with_latest.ensures
+
+pub with_latest-requires : goal.with_latest-requires
+with_latest-requires c =
+    let a = c.args in
+    omega (arith, c.submitted_after-left.ensures, (number_passed a.n a.w a.station (length a.store.now) a.number (sym c.in-Ok.ensures)).2)

@@ -4,4 +4,4 @@ use Rattle.sender.proofs.questions.record_right.Goals as goal
 
 pub returns : goal.returns
 unfolding record_right
-returns c = rw (c.modulus.ensures, c.lengths_right.ensures)
+returns c = rw (c.modulus.ensures, c.lengths_right.ensures, c.is_method.ensures, c.is_method-2.ensures)
