@@ -41,10 +41,13 @@ unfolding order_from
 order_back (Ok done) = refl
 order_back (Err r) = ap Err (refusal_back r)
 
+pub order_answer_injective : (a b : Result Unit ReceiverRefusal) → order_answer a ≡ order_answer b → a ≡ b
+order_answer_injective a b e = sym (order_back a) ∙ ap order_from e ∙ order_back b
+
 pub order_outcome_injective : (r s : OrderResult) → order_outcome r ≡ order_outcome s → r ≡ s
 order_outcome_injective r s e =
     ap₂ (λ (a : Result Unit ReceiverRefusal) (x : Receiver). record { answer = a; after = x })
-    (sym (order_back r.answer) ∙ ap (λ (o : Outcome OrderAnswer). order_from o.answer) e ∙ order_back s.answer)
+    (order_answer_injective r.answer s.answer (ap (λ (o : Outcome OrderAnswer). o.answer) e))
     (ap (λ (o : Outcome OrderAnswer). o.receiver) e)
 
 -- ---- a block: no number of a refused line is one of the receiver's
@@ -91,7 +94,7 @@ numbers_told repeat_told = block.line 0
 numbers_told lost_told = block.line 0
 numbers_told (read_told n) = n
 
-answer_injective : (a b : Result Told BlockRefusal) → told_of a ≡ told_of b → a ≡ b
+pub answer_injective : (a b : Result Told BlockRefusal) → told_of a ≡ told_of b → a ≡ b
 unfolding numbers_told refused_number
 answer_injective (Ok (tells.New x)) (Ok (tells.New y)) e =
     let f : ◌≡◌ {A = Result Block ReadRefusal} (Ok x) (Ok y) = of_read_injective (Ok x) (Ok y) (ap numbers_told e) in
