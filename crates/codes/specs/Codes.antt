@@ -17,6 +17,8 @@ use Rattle.frame.specs.declared.FrameMethod.{FrameMethod}
 use Rattle.frame.specs.declared.FrameMethod.TheVariants as frame
 use Rattle.fixed_block.specs.declared.Polynomial.{Polynomial}
 use Rattle.fixed_block.specs.declared.Polynomial.TheVariants as polynomial
+use Rattle.orders.specs.declared.CyclicMethod.{CyclicMethod}
+use Rattle.orders.specs.declared.CyclicMethod.TheVariants as cyclic
 use Rattle.codes.specs.declared.Format.{Format}
 
 abbrev pub method_of : ℕ → Option Method
@@ -70,3 +72,6 @@ abbrev pub polynomial_of : ℕ → Option Polynomial
 polynomial_of degree =
     cond (eqb degree 8) (Some polynomial.Degree8)
     (cond (eqb degree 16) (Some polynomial.Degree16) (cond (eqb degree 24) (Some polynomial.Degree24) None))
+
+abbrev pub cyclic_method_of : ℕ → Option CyclicMethod
+cyclic_method_of code = cond (eqb code 3) (Some cyclic.Cyclic) (cond (eqb code 4) (Some cyclic.CyclicAlternative) None)

@@ -1,15 +1,16 @@
 // The numbers that C passes for a method, a parity, a code, a shape, an end sign and a polynomial: document 01's numbers of methods and
 // shapes, 0 and 1 for parity, 0 and 1 for KOI-7 and DKOI, the end signs by their bytes in KOI-7, and polynomials by their degrees. Every
 // number is taken: one outside its list is none of them. They stand here together, as the list of what C may pass, and not as a
-// `TryFrom` beside each type in `block`, `frame` and `fixed_block`.
+// `TryFrom` beside each type in `block`, `frame`, `fixed_block` and `orders`.
 #![tactic(auto)]
 
 ghost use Rattle.std.specs.Prelude.{◌≡◌};
-ghost use Rattle.codes.specs.Codes.{method_of, parity_of, characters_of, shape_of, end_of, link_of, format_of, frame_method_of, polynomial_of};
+ghost use Rattle.codes.specs.Codes.{method_of, parity_of, characters_of, shape_of, end_of, link_of, format_of, frame_method_of, polynomial_of, cyclic_method_of};
 
 use block::{Code, ETB, ETX, EndSign, Link, Method, Parity, Shape, US};
 use fixed_block::Polynomial;
 use frame::FrameMethod;
+use orders::CyclicMethod;
 
 // What a block to be written has.
 #[derive(Clone, Copy)]
@@ -114,6 +115,17 @@ pub fn polynomial_of(degree: u8) -> Option<Polynomial>
         8 => Some(Polynomial::Degree8),
         16 => Some(Polynomial::Degree16),
         24 => Some(Polynomial::Degree24),
+        _ => None,
+    }
+}
+
+// The methods that an order can name.
+pub fn cyclic_method_of(code: u8) -> Option<CyclicMethod>
+    ensures { result ≡ cyclic_method_of code }
+{
+    match code {
+        3 => Some(CyclicMethod::Cyclic),
+        4 => Some(CyclicMethod::CyclicAlternative),
         _ => None,
     }
 }
