@@ -8,6 +8,7 @@ use Rattle.frame.specs.Answers as frame
 use Rattle.number.specs.Number.{Outcome, receiving}
 use Rattle.sender.specs.declared.Station.{Station}
 use Rattle.sender.specs.Sender as sender
+use Rattle.sender.specs.Sending as sending
 use Rattle.interleave.specs.Calls.{Verdict, clear, no}
 use Rattle.interleave.specs.Calls as interleaving
 use Rattle.replay.specs.declared.PanelReading.{PanelReading}
@@ -26,7 +27,12 @@ use Rattle.fixed_answers.specs.Numbers.{fixed_numbers}
 use Rattle.block.specs.declared.Link.{Link}
 use Rattle.frame.specs.declared.FrameMethod.{FrameMethod}
 use Rattle.codes.specs.declared.Format.{Format}
-use Rattle.codes.specs.Codes.{link_of, format_of, frame_method_of, polynomial_of}
+use Rattle.orders.specs.declared.CyclicMethod.{CyclicMethod}
+use Rattle.receiver.specs.declared.Receiver.{Receiver}
+use Rattle.receiver.specs.Receiver as receiver
+use Rattle.receiver.specs.Answers as receiving_station
+use Rattle.receiver_answers.specs.Numbers.{order_number, told_numbers}
+use Rattle.codes.specs.Codes.{link_of, format_of, frame_method_of, polynomial_of, cyclic_method_of}
 
 -- the number that a call returns, and the answer and the output afterwards
 pub record Call : Type 0 where
@@ -212,3 +218,46 @@ read_fixed_by (Some p) block out = fixed_call (fixed.read_call p block out)
 -- of `degree`, the block and the output
 abbrev pub read_fixed_call : ℕ → List ℕ → List ℕ → Call
 read_fixed_call d block out = read_fixed_by (polynomial_of d) block out
+
+-- ---- orders of another method
+
+abbrev pub order_by : Option CyclicMethod → ℕ → ℕ → Station → StationCall
+order_by None n w station = station_called 1 0 station []
+order_by (Some m) n w station = after_sending (sender.ordering n w station m) []
+
+-- of n, w, the record and `method`; no store is lent
+abbrev pub order_call : ℕ → ℕ → Station → ℕ → StationCall
+order_call n w station method = order_by (cyclic_method_of method) n w station
+
+-- of n, w, the record, the store, the named number and the output
+abbrev pub send_call : ℕ → ℕ → Station → List ℕ → ℕ → List ℕ → Call
+send_call n w station store number out = after_writing_block (sending.send_call n w station store number out)
+
+-- the number that a call returns, its answer, and record and output afterwards
+pub record ReceiverCall : Type 0 where
+  pub number : ℕ
+  pub answer : List ℕ
+  pub receiver : Receiver
+  pub output : List ℕ
+
+abbrev pub receiver_called : ℕ → List ℕ → Receiver → List ℕ → ReceiverCall
+receiver_called number answer r output = record { number = number; answer = answer; receiver = r; output = output }
+
+abbrev pub after_telling_order : receiver.Outcome receiver.OrderAnswer → ReceiverCall
+after_telling_order o = receiver_called (order_number o.answer) [] o.receiver []
+
+abbrev pub tell_order_by : Option CyclicMethod → Receiver → ℕ → ReceiverCall
+tell_order_by None r number = receiver_called 1 [] r []
+tell_order_by (Some m) r number = after_telling_order (receiver.telling_order r number m)
+
+-- of the record, the order's number and `method`; no output is lent
+abbrev pub tell_order_call : Receiver → ℕ → ℕ → ReceiverCall
+tell_order_call r number method = tell_order_by (cyclic_method_of method) r number
+
+abbrev pub after_telling_block : rule.Call (receiver.Outcome receiving_station.TellNumbers) → ReceiverCall
+after_telling_block c =
+    receiver_called (told_numbers c.answer.answer).number (told_numbers c.answer.answer).values c.answer.receiver c.output
+
+-- of the record, the block's number, the line and the output
+abbrev pub tell_block_call : Receiver → ℕ → List ℕ → List ℕ → ReceiverCall
+tell_block_call r number line out = after_telling_block (receiving_station.block_call r number line out)

@@ -1,5 +1,5 @@
-// The static library for C and Rust: reading and writing blocks, frames and fixed blocks, the number check, the sender, interleaving,
-// replay, the checks of methods 3 to 6 and those of two parts joined. Methods, shapes, degrees and refusals go by document 01's
+// The static library for C and Rust: reading and writing blocks, frames and fixed blocks, the number check, the sender, orders of another
+// method and the receiver, interleaving, replay, the checks of methods 3 to 6 and those of two parts joined. Methods, shapes, degrees and refusals go by document 01's
 // numbers; 0 is success. Every input is taken: a code outside its list answers 1, with an answer of zeros. The output keeps every byte
 // that a success does not name. Bit 0 of a check is its highest power and is sent first. A slice is passed as a pointer and then a
 // length, a `&mut` number or array as a pointer. include/corridor.h documents every call.
@@ -21,6 +21,7 @@ mod frames;
 mod interleaving;
 mod joins;
 mod numbers;
+mod orders_of_methods;
 mod replays;
 mod senders;
 
@@ -30,6 +31,9 @@ pub use frames::{corridor_read_frame, corridor_write_frame};
 pub use interleaving::{corridor_deinterleave, corridor_interleave};
 pub use joins::{corridor_join_3, corridor_join_4, corridor_join_5, corridor_join_6};
 pub use numbers::corridor_receive;
+pub use orders_of_methods::{
+    corridor_order, corridor_send, corridor_tell_block, corridor_tell_order,
+};
 pub use replays::{corridor_replay_panel, corridor_replay_service};
 pub use senders::{corridor_acknowledge, corridor_submit};
 
