@@ -294,6 +294,9 @@ typedef struct corridor_station {
     uint8_t stored;
     uint8_t cell;
     uint16_t lengths[7];
+    uint8_t method; /* of the last order, and the one before it: 3 or 4, or 0 */
+    uint8_t former; /* for the method before any order, which is 4 */
+    uint8_t older;  /* the stored blocks from before the last order */
 } corridor_station;
 
 /*
@@ -311,8 +314,9 @@ typedef struct corridor_station {
  * as they were:
  *   41  n is not from 1 to 7
  *   51  w is not from 1 to 7 or not below the modulus, or the record is none
- *       of this n and w: more than w blocks stored, or a number, a cell or a
- *       length out of range
+ *       of this n and w: more than w blocks stored, more from before the last
+ *       order than are stored, or a number, a cell, a length or a method out
+ *       of range
  *    6  the store is too short; bytes needed
  *   57  the block is too long; asked before 55
  *   55  w blocks are stored already
@@ -338,6 +342,101 @@ uint32_t corridor_submit(uint8_t n, uint8_t w, corridor_station *station,
 uint32_t corridor_acknowledge(uint8_t n, uint8_t w, corridor_station *station,
                               const uint8_t *store, size_t store_length,
                               uint8_t number, size_t *value);
+
+/*
+ * Orders another method without a stop: the stored blocks stay under the
+ * method of their own, and later submissions go under this one. A fresh
+ * station sends under method 4. The receiver is told the order with the
+ * number that is answered here.
+ *
+ *   n, w, station   as for corridor_submit
+ *   method          CORRIDOR_CYCLIC or CORRIDOR_CYCLIC_ALTERNATIVE
+ *
+ * Returns 0:     *value is the order's number, the next that is given
+ * Otherwise *value is 0, and the record is as it was:
+ *    1  the method is neither 3 nor 4
+ *   41, 51  as for corridor_submit
+ *   67  a block from before the last order is still stored
+ */
+uint32_t corridor_order(uint8_t n, uint8_t w, corridor_station *station,
+                        uint8_t method, size_t *value);
+
+/*
+ * Writes the line of a stored block, for the first time or again: clear text
+ * with ETX, under the block's own method and KOI-7. The record is only read.
+ *
+ *   n, w, station, store   as for corridor_submit
+ *   number       the block's
+ *   out          takes the line: at most
+ *                CORRIDOR_LONGEST_CLEAR(the block's length) bytes
+ *
+ * Returns 0:     *value is the length of the line in bytes
+ * Otherwise *value is the value named here (else 0), and out is as it was:
+ *   41, 51, 6  as for corridor_submit, 6 of the store
+ *   56  number is not that of a stored block
+ *    6  out is too short; bytes needed
+ */
+uint32_t corridor_send(uint8_t n, uint8_t w, const corridor_station *station,
+                       const uint8_t *store, size_t store_length,
+                       uint8_t number, uint8_t *out, size_t out_length,
+                       size_t *value);
+
+/*
+ * The record of a receiving station. The line driver keeps it, sets n and w
+ * and the rest to zeros for a fresh station, and lends it to every call.
+ */
+typedef struct corridor_receiver {
+    uint8_t n;       /* sequence numbers run modulo 2^n */
+    uint8_t w;       /* the link's window, as for corridor_receive */
+    uint8_t c;       /* the awaited number */
+    uint8_t method;  /* of the blocks read: 3 or 4, or 0 before any order: 4 */
+    uint8_t waiting; /* the method of an order that waits, else 0 */
+    uint8_t number;  /* and the number of the first block under it */
+} corridor_receiver;
+
+/*
+ * Tells the receiver an order with its number. Where the awaited number is
+ * the order's the method changes at once, else when it is.
+ *
+ *   receiver     the record
+ *   number       the order's, below the modulus
+ *   method       CORRIDOR_CYCLIC or CORRIDOR_CYCLIC_ALTERNATIVE
+ *
+ * Returns 0, or with the record as it was:
+ *    1  the method is neither 3 nor 4
+ *   41  n is not from 1 to 7
+ *   51  w is not from 1 to the modulus less 1, or the record waits for the
+ *       awaited number or for one not below the modulus, or keeps no method
+ *   42  c is not below the modulus
+ *   43  number is not below the modulus
+ *   67  an order waits already
+ */
+uint32_t corridor_tell_order(corridor_receiver *receiver, uint8_t number,
+                             uint8_t method);
+
+/*
+ * Tells the receiver a block's number beside its line. The line of a new
+ * block is read, as corridor_read_block reads it under the method in force
+ * and KOI-7, and the awaited number moves on behind a line that was taken.
+ *
+ *   receiver     the record
+ *   number       the block's, below the modulus
+ *   line         the line as it came in
+ *   out          takes header, then text, of a new block
+ *
+ * Returns 0:     answer[0] 1 new, and answer[1] to answer[5] as answer[0] to
+ *                          answer[4] of corridor_read_block
+ *                          2 repeat, 3 lost: the line is not read, the record
+ *                          and out are as they were, and zeros
+ * Otherwise answer[0] is 0, answer[1] the place or the bytes needed of a
+ * refused line (else 0), and zeros; record and out are as they were:
+ *   41, 51, 42, 43  as for corridor_tell_order
+ *   11, 13 to 15, 52, 53, 17 to 19   as for corridor_read_block
+ */
+uint32_t corridor_tell_block(corridor_receiver *receiver, uint8_t number,
+                             const uint8_t *line, size_t line_length,
+                             uint8_t *out, size_t out_length,
+                             size_t answer[6]);
 
 /*
  * Interleaves a text: its bytes are laid in rows of d and sent by columns, so

@@ -1,7 +1,8 @@
 //! Safe Rust calls over the C interface of the corridor library: blocks
 //! (methods 1 to 4 and 7), frames (methods 5 and 6), the number check, the
-//! sender, interleaving, replay, the cyclic checks of GOST 28082-89 and those of
-//! two parts joined, and fixed blocks of GOST 17422-82.
+//! sender, orders of another method and the receiver, interleaving, replay, the
+//! cyclic checks of GOST 28082-89 and those of two parts joined, and fixed
+//! blocks of GOST 17422-82.
 //!
 //! The calls allocate nothing. Every call finishes with a full result or with
 //! a [`Refusal`]; after a refusal the lent output holds what it held before,
@@ -309,6 +310,110 @@ pub fn acknowledge(
     value_of(number, value).map(|value| value as u8)
 }
 
+/// The method that an order names.
+#[derive(Clone, Copy, PartialEq, Eq, Debug)]
+#[repr(u8)]
+pub enum CyclicMethod {
+    /// Method 3.
+    Cyclic = 3,
+    /// Method 4, that of a fresh station.
+    CyclicAlternative = 4,
+}
+
+/// Puts later submissions under another method, and gives the order's number,
+/// the next that is given: the receiver is told both.
+pub fn order(
+    (n, window): (u8, u8),
+    station: &mut Station,
+    method: CyclicMethod,
+) -> Result<u8, Refusal> {
+    let mut value = 0;
+    let number = codes::order(n, window, &mut station.0, method as u8, &mut value);
+    value_of(number, value).map(|value| value as u8)
+}
+
+/// Writes the line of a stored block to the start of `out`, under the block's
+/// own method, and gives its length.
+pub fn send(
+    (n, window): (u8, u8),
+    station: &Station,
+    store: &[u8],
+    named: u8,
+    out: &mut [u8],
+) -> Result<usize, Refusal> {
+    let mut value = 0;
+    let number = codes::send((n, window), &station.0, store, named, out, &mut value);
+    value_of(number, value)
+}
+
+/// The record of a receiving station. It stays with the line driver.
+#[derive(Clone, Copy, PartialEq, Eq, Debug)]
+pub struct Receiver(codes::Receiver);
+
+impl Receiver {
+    /// A station that has received nothing, on a link with this modulus 2^n and
+    /// window: it awaits 0, under method 4.
+    pub fn fresh((n, window): (u8, u8)) -> Receiver {
+        Receiver(codes::Receiver {
+            n,
+            w: window,
+            ..codes::Receiver::default()
+        })
+    }
+
+    /// The awaited number.
+    pub fn awaited(&self) -> u8 {
+        self.0.c
+    }
+}
+
+/// What a block's number told, and of a new block what its line held.
+#[derive(Clone, Copy, PartialEq, Eq, Debug)]
+pub enum Told {
+    New(Block),
+    Repeat,
+    Lost,
+}
+
+/// Tells the receiver an order with its number.
+pub fn tell_order(
+    receiver: &mut Receiver,
+    number: u8,
+    method: CyclicMethod,
+) -> Result<(), Refusal> {
+    value_of(
+        codes::tell_order(&mut receiver.0, number, method as u8),
+        0,
+    )
+    .map(|_| ())
+}
+
+/// Tells the receiver a block's number beside its line. Header and text of a
+/// new block go to the start of `out`.
+pub fn tell_block(
+    receiver: &mut Receiver,
+    number: u8,
+    line: &[u8],
+    out: &mut [u8],
+) -> Result<Told, Refusal> {
+    let mut answer = [0; 6];
+    let refused = codes::tell_block(&mut receiver.0, number, line, out, &mut answer);
+    value_of(refused, answer[1])?;
+    let [told, shape, end_sign, header, text, counted] = answer;
+    Ok(match told {
+        1 => Told::New(Block {
+            shape: Shape::of_code(shape),
+            end_sign: EndSign::of_code(end_sign),
+            header_length: header,
+            text_length: text,
+            counted,
+        }),
+        2 => Told::Repeat,
+        3 => Told::Lost,
+        code => unreachable!("the library told {code}"),
+    })
+}
+
 /// Lays the text in rows of `d` bytes and puts its columns, one after the
 /// other, to the start of `out`.
 pub fn interleave(d: usize, text: &[u8], out: &mut [u8]) -> Result<(), Refusal> {
@@ -569,6 +674,9 @@ pub mod codes {
         pub stored: u8,
         pub cell: u8,
         pub lengths: [u16; 7],
+        pub method: u8,
+        pub former: u8,
+        pub older: u8,
     }
 
     /// `corridor_submit`
@@ -617,6 +725,61 @@ pub mod codes {
                 value,
             )
         }
+    }
+
+    /// `corridor_order`
+    pub fn order(n: u8, w: u8, station: &mut Station, method: u8, value: &mut usize) -> u32 {
+        // SAFETY: record and value are lent for writing.
+        unsafe { interface::corridor_order(n, w, station, method, value) }
+    }
+
+    /// `corridor_send`
+    pub fn send(
+        (n, w): (u8, u8),
+        station: &Station,
+        store: &[u8],
+        number: u8,
+        out: &mut [u8],
+        value: &mut usize,
+    ) -> u32 {
+        let (room, out) = (out.len(), out.as_mut_ptr());
+        let (length, store) = (store.len(), store.as_ptr());
+        // SAFETY: as in `read_block`; the record is only read.
+        unsafe { interface::corridor_send(n, w, station, store, length, number, out, room, value) }
+    }
+
+    /// `corridor_receiver`
+    #[derive(Clone, Copy, Default, PartialEq, Eq, Debug)]
+    #[repr(C)]
+    pub struct Receiver {
+        pub n: u8,
+        pub w: u8,
+        pub c: u8,
+        pub method: u8,
+        pub waiting: u8,
+        pub number: u8,
+    }
+
+    /// `corridor_tell_order`
+    pub fn tell_order(receiver: &mut Receiver, number: u8, method: u8) -> u32 {
+        // SAFETY: the record is lent for writing.
+        unsafe { interface::corridor_tell_order(receiver, number, method) }
+    }
+
+    /// `corridor_tell_block`
+    pub fn tell_block(
+        receiver: &mut Receiver,
+        number: u8,
+        line: &[u8],
+        out: &mut [u8],
+        answer: &mut [usize; 6],
+    ) -> u32 {
+        let (room, out) = (out.len(), out.as_mut_ptr());
+        let (length, line) = (line.len(), line.as_ptr());
+        let answer = answer.as_mut_ptr();
+        // SAFETY: as in `read_block`; the record is lent for writing, and
+        // `answer` holds six values.
+        unsafe { interface::corridor_tell_block(receiver, number, line, length, out, room, answer) }
     }
 
     /// `corridor_interleave`
@@ -722,7 +885,7 @@ pub mod codes {
 
 /// The C interface as `include/corridor.h` declares it.
 mod interface {
-    use super::codes::Station;
+    use super::codes::{Receiver, Station};
 
     extern "C" {
         pub fn corridor_read_block(
@@ -786,6 +949,34 @@ mod interface {
             store_length: usize,
             number: u8,
             value: *mut usize,
+        ) -> u32;
+        pub fn corridor_order(
+            n: u8,
+            w: u8,
+            station: *mut Station,
+            method: u8,
+            value: *mut usize,
+        ) -> u32;
+        pub fn corridor_send(
+            n: u8,
+            w: u8,
+            station: *const Station,
+            store: *const u8,
+            store_length: usize,
+            number: u8,
+            out: *mut u8,
+            out_length: usize,
+            value: *mut usize,
+        ) -> u32;
+        pub fn corridor_tell_order(receiver: *mut Receiver, number: u8, method: u8) -> u32;
+        pub fn corridor_tell_block(
+            receiver: *mut Receiver,
+            number: u8,
+            line: *const u8,
+            line_length: usize,
+            out: *mut u8,
+            out_length: usize,
+            answer: *mut usize,
         ) -> u32;
         pub fn corridor_interleave(
             d: usize,

@@ -24,6 +24,7 @@ mod judge;
 mod lengths;
 mod limits;
 mod lines;
+mod links;
 #[allow(dead_code)]
 mod peer;
 mod random;
@@ -45,6 +46,9 @@ const CASES: u64 = 1_000_000;
 
 /// Calls of the sender.
 const SENDER_CALLS: u64 = 3_000_000;
+
+/// Calls of the two stations of a link.
+const LINK_CALLS: u64 = 2_000_000;
 
 /// Texts that are interleaved, behind the small ones.
 const INTERLEAVED: u64 = 50_000;
@@ -82,6 +86,9 @@ fn main() -> ExitCode {
     });
     stage("histories of a sender", tried, |judge| {
         senders::run(&mut judge.tally, &mut random, SENDER_CALLS)
+    });
+    stage("histories of a link", tried, |judge| {
+        links::run(&mut judge.tally, &mut random, LINK_CALLS)
     });
     stage("interleaving", tried, |judge| {
         interleaving::run(&mut judge.tally, &mut random, INTERLEAVED)

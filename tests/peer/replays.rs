@@ -24,6 +24,9 @@ const STATION: codes::Station = codes::Station {
     stored: 0xA5,
     cell: 0xA5,
     lengths: [0xA5A5; 7],
+    method: 0xA5,
+    former: 0xA5,
+    older: 0xA5,
 };
 const AWAITED: u8 = 0xA5;
 const NOTES: [u8; 12] = [0xA5; 12];

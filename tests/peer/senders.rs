@@ -32,15 +32,20 @@ pub fn of_record(record: &Record) -> codes::Station {
         stored: record.stored as u8,
         cell: record.cell as u8,
         lengths,
+        method: record.orders[0],
+        former: record.orders[1],
+        older: record.older as u8,
     }
 }
 
-fn to_record(station: &codes::Station) -> Record {
+pub fn to_record(station: &codes::Station) -> Record {
     Record {
         next: usize::from(station.next),
         stored: usize::from(station.stored),
         cell: usize::from(station.cell),
         lengths: station.lengths.map(usize::from).to_vec(),
+        orders: [station.method, station.former],
+        older: usize::from(station.older),
     }
 }
 
@@ -58,23 +63,30 @@ pub fn some_length(random: &mut Random) -> usize {
 
 /// A right record for n and w, as no list of calls from a fresh station need
 /// have left it.
-fn some_record(random: &mut Random, n: u8, w: u8) -> Record {
+pub fn some_record(random: &mut Random, n: u8, w: u8) -> Record {
     let lengths = (0..7).map(|_| random.below(4_096)).collect();
+    let stored = random.below(usize::from(w) + 1);
     Record {
         next: random.below(1 << n),
-        stored: random.below(usize::from(w) + 1),
+        stored,
         cell: random.below(usize::from(w)),
         lengths,
+        orders: [random.of(&[0, 3, 4]), random.of(&[0, 3, 4])],
+        older: random.below(stored + 1),
     }
 }
 
 /// A record with one field, or two, outside its range.
-fn spoiled(random: &mut Random, mut station: codes::Station) -> codes::Station {
+pub fn spoiled(random: &mut Random, mut station: codes::Station) -> codes::Station {
     for _ in 0..=random.below(2) {
-        match random.below(4) {
-            0 => station.next = random.byte(),
-            1 => station.stored = random.byte(),
-            2 => station.cell = random.byte(),
+        let any = random.byte();
+        match random.below(7) {
+            0 => station.next = any,
+            1 => station.stored = any,
+            2 => station.cell = any,
+            3 => station.older = random.of(&[station.stored.wrapping_add(1), any]),
+            4 => station.method = any,
+            5 => station.former = any,
             _ => {
                 let length = 4_094 + random.few(61_441);
                 station.lengths[random.below(7)] = length as u16;

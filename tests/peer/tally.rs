@@ -17,9 +17,13 @@ pub enum Call {
     Join,
     WriteFixed,
     ReadFixed,
+    Order,
+    Send,
+    TellOrder,
+    TellBlock,
 }
 
-const CALLS: [(Call, &str, &[usize]); 14] = [
+const CALLS: [(Call, &str, &[usize]); 18] = [
     (Call::ReadBlock, "read a block", &[1, 2, 3, 4, 7]),
     (Call::WriteBlock, "write a block", &[1, 2, 3, 4, 7]),
     (Call::ReadFrame, "read a frame", &[5, 6]),
@@ -34,6 +38,10 @@ const CALLS: [(Call, &str, &[usize]); 14] = [
     (Call::Join, "join two checks", &[3, 4, 5, 6]),
     (Call::WriteFixed, "write fixed", &[]),
     (Call::ReadFixed, "read fixed", &[]),
+    (Call::Order, "order a method", &[3, 4]),
+    (Call::Send, "send a block", &[3, 4]),
+    (Call::TellOrder, "tell an order", &[3, 4]),
+    (Call::TellBlock, "tell a block", &[3, 4]),
 ];
 
 /// Every number that documents 01 and 02 give to a question of the call.
@@ -51,10 +59,14 @@ fn questions(call: Call) -> &'static [usize] {
         Call::Join => &[63],
         Call::WriteFixed => &[1, 64, 65, 6],
         Call::ReadFixed => &[1, 64, 65, 18, 19],
+        Call::Order => &[1, 41, 51, 67],
+        Call::Send => &[41, 51, 6, 56],
+        Call::TellOrder => &[1, 41, 51, 42, 43, 67],
+        Call::TellBlock => &[41, 51, 42, 43, 11, 13, 14, 15, 52, 53, 17, 18, 19],
     }
 }
 
-const NUMBERS: usize = 67;
+const NUMBERS: usize = 68;
 
 /// Methods 1 to 7, and 0 for every other code.
 const METHODS: usize = 8;

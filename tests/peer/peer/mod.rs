@@ -16,6 +16,7 @@ pub mod grammar;
 pub mod interleave;
 pub mod join;
 pub mod number;
+pub mod receiver;
 pub mod replay;
 pub mod sender;
 pub mod signs;

@@ -1,5 +1,8 @@
-//! The sender: a queue of the blocks that it keeps.
+//! The sender: a queue of the blocks that it keeps, each with its number and
+//! its method.
 
+use super::block::{self, Parts};
+use super::signs::{Link, ETX, SHAPES};
 use super::{ask, Refusal};
 use std::collections::VecDeque;
 
@@ -14,6 +17,10 @@ pub struct Record {
     pub cell: usize,
     /// The length of the block that each of seven cells got last.
     pub lengths: Vec<usize>,
+    /// The methods of the last order and of the one before it, 0 for none.
+    pub orders: [u8; 2],
+    /// How many of the stored blocks are from before the last order.
+    pub older: usize,
 }
 
 impl Record {
@@ -23,7 +30,18 @@ impl Record {
             stored: 0,
             cell: 0,
             lengths: vec![0; 7],
+            orders: [0; 2],
+            older: 0,
         }
+    }
+}
+
+/// The method that an order named; a station without one sends under method 4.
+pub fn method_of(order: u8) -> u8 {
+    if order == 0 {
+        4
+    } else {
+        order
     }
 }
 
@@ -34,8 +52,21 @@ pub fn questions(n: usize, w: usize, record: &Record, room: usize) -> Result<(),
     let window = (1..=7).contains(&w) && w < modulus;
     let places = record.stored <= w && record.cell < w && record.next < modulus;
     let lengths = record.lengths.iter().all(|length| *length <= 4_095);
-    ask(window && places && lengths, Refusal::plain(51))?;
+    let orders = record.orders.iter().all(|order| [0, 3, 4].contains(order));
+    let older = record.older <= record.stored;
+    let right = window && places && lengths && orders && older;
+    ask(right, Refusal::plain(51))?;
     ask(w * CELL <= room, Refusal::with(6, w * CELL))
+}
+
+/// A stored block.
+#[derive(Clone, PartialEq, Eq, Debug)]
+pub struct Stored {
+    pub number: usize,
+    pub method: u8,
+    pub bytes: Vec<u8>,
+    /// Submitted before the last order.
+    before: bool,
 }
 
 /// A station whose n, w and record pass questions 41 and 51.
@@ -45,20 +76,28 @@ pub struct Sender {
     next: usize,
     cell: usize,
     lengths: Vec<usize>,
-    /// The stored blocks with their numbers, the oldest first.
-    queue: VecDeque<(usize, Vec<u8>)>,
+    orders: [u8; 2],
+    /// The stored blocks, the oldest first.
+    queue: VecDeque<Stored>,
 }
 
 impl Sender {
     /// The station with a record and a store that hold stored blocks: these
-    /// have the numbers before the next one, and the cells before the next.
+    /// have the numbers before the next one, and the cells before the next, and
+    /// the oldest of them are from before the last order.
     pub fn of_record(n: usize, w: usize, record: &Record, store: &[u8]) -> Sender {
         let modulus = 1 << n;
         let block = |back: usize| {
             let number = (record.next + modulus - back) % modulus;
             let cell = (record.cell + w - back) % w;
             let bytes = &store[cell * CELL..][..record.lengths[cell]];
-            (number, bytes.to_vec())
+            let before = record.stored - back < record.older;
+            Stored {
+                number,
+                method: method_of(record.orders[usize::from(before)]),
+                bytes: bytes.to_vec(),
+                before,
+            }
         };
         Sender {
             modulus,
@@ -66,6 +105,7 @@ impl Sender {
             next: record.next,
             cell: record.cell,
             lengths: record.lengths.clone(),
+            orders: record.orders,
             queue: (1..=record.stored).rev().map(block).collect(),
         }
     }
@@ -77,11 +117,17 @@ impl Sender {
             stored: self.queue.len(),
             cell: self.cell,
             lengths: self.lengths.clone(),
+            orders: self.orders,
+            older: self.queue.iter().filter(|block| block.before).count(),
         }
     }
 
+    pub fn stored(&self) -> impl Iterator<Item = &Stored> + '_ {
+        self.queue.iter()
+    }
+
     pub fn numbers(&self) -> impl Iterator<Item = usize> + '_ {
-        self.queue.iter().map(|(number, _)| *number)
+        self.queue.iter().map(|block| block.number)
     }
 
     /// Takes a block behind the others: its number and the cell that it goes
@@ -90,7 +136,12 @@ impl Sender {
         ask(block.len() <= 4_095, Refusal::plain(57))?;
         ask(self.queue.len() < self.w, Refusal::plain(55))?;
         let (number, cell) = (self.next, self.cell);
-        self.queue.push_back((number, block.to_vec()));
+        self.queue.push_back(Stored {
+            number,
+            method: method_of(self.orders[0]),
+            bytes: block.to_vec(),
+            before: false,
+        });
         self.lengths[cell] = block.len();
         self.next = (number + 1) % self.modulus;
         self.cell = (cell + 1) % self.w;
@@ -105,12 +156,38 @@ impl Sender {
         Ok(self.queue.drain(..=last).count())
     }
 
+    /// Later blocks go under another method, those in the queue under their
+    /// own; gives the number of the next. Question 67.
+    pub fn order(&mut self, method: u8) -> Result<usize, Refusal> {
+        let free = self.queue.iter().all(|block| !block.before);
+        ask(free, Refusal::plain(67))?;
+        self.queue.iter_mut().for_each(|block| block.before = true);
+        self.orders = [method, self.orders[0]];
+        Ok(self.next)
+    }
+
+    /// The line of a stored block, shape 4 with ETX. Questions 56, and 6 for an
+    /// output of so many bytes.
+    pub fn send(&self, named: usize, room: usize) -> Result<Vec<u8>, Refusal> {
+        let block = self.queue.iter().find(|block| block.number == named);
+        let block = block.ok_or(Refusal::plain(56))?;
+        let line = block::write(&Parts {
+            link: Link::koi7(block.method, false),
+            shape: SHAPES[3],
+            end_sign: ETX,
+            header: Vec::new(),
+            text: block.bytes.clone(),
+        })?;
+        ask(line.len() <= room, Refusal::with(6, line.len()))?;
+        Ok(line)
+    }
+
     /// Whether a store holds every stored block in its cell.
     pub fn stands_in(&self, store: &[u8]) -> bool {
         let count = self.queue.len();
-        self.queue.iter().enumerate().all(|(place, (_, bytes))| {
+        self.queue.iter().enumerate().all(|(place, block)| {
             let cell = (self.cell + 7 * self.w - count + place) % self.w;
-            store[cell * CELL..].starts_with(bytes)
+            store[cell * CELL..].starts_with(&block.bytes)
         })
     }
 }
