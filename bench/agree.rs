@@ -1,12 +1,12 @@
 //! Before anything is timed: on generated inputs, sound and damaged, each
 //! peer gives the library's numbers, values and output bytes.
 
-use crate::calls::{Calls, Form, Part, Station, LIBRARY};
+use crate::calls::{Calls, Form, Part, Receiver, Station, LIBRARY};
 use crate::frames;
 use crate::lines::{self, Fill};
 use crate::peer::bits;
-use crate::peer::block::Parts;
-use crate::peer::signs::{Code, Link, Text, SHAPES, STX, SYN, US};
+use crate::peer::block::{self, Parts};
+use crate::peer::signs::{Code, Link, Text, ENDS, SHAPES, STX, SYN, US};
 use crate::random::Random;
 
 /// Rounds of generated inputs; each has about a dozen calls a peer.
@@ -131,12 +131,15 @@ impl Agreement<'_> {
             stored: random.below(usize::from(w) + 1 + usize::from(spoiled)) as u8,
             cell: random.below(usize::from(w).max(1) + usize::from(spoiled)) as u8,
             lengths: std::array::from_fn(|_| random.below(4_096 + usize::from(spoiled)) as u16),
+            method: random.of(&[0, 3, 4, 5 * u8::from(spoiled)]),
+            former: random.of(&[0, 3, 4]),
+            older: random.below(3) as u8,
         };
         let room = (usize::from(w) * 4_096 + random.below(3)).saturating_sub(1);
         let length = random.of(&[0, 16, 4_094, 4_095, 4_096]);
         let (block, number) = (random.bytes(length), random.below(130) as u8);
         let what = || format!("submit {n} {w} {station:?} {room} {length}");
-        self.same(&what, room + 18, &|calls, out, values| {
+        self.same(&what, room + 21, &|calls, out, values| {
             let (store, record) = out.split_at_mut(room);
             let mut after = station;
             let refusal = calls.submit((n, w), &mut after, store, &block, &mut values[0]);
@@ -144,11 +147,97 @@ impl Agreement<'_> {
             refusal
         });
         let what = || format!("acknowledge {n} {w} {station:?} {room} {number}");
-        self.same(&what, room + 18, &|calls, out, values| {
+        self.same(&what, room + 21, &|calls, out, values| {
             let (store, record) = out.split_at_mut(room);
             let mut after = station;
             let refusal = calls.acknowledge((n, w), &mut after, store, number, &mut values[0]);
             record.copy_from_slice(&bytes_of(&after));
+            refusal
+        });
+    }
+
+    /// An order and a sending on one record, mostly a right one.
+    fn order_round(&mut self, random: &mut Random) {
+        let (n, w) = (random.below(9) as u8, random.below(9) as u8);
+        let spoiled = u8::from(random.once_in(6));
+        let stored = random.below(usize::from(w) + 1) as u8;
+        let station = Station {
+            next: random.below(2) as u8,
+            stored,
+            cell: random.below(usize::from(w).max(1)) as u8,
+            lengths: std::array::from_fn(|_| random.few(40) as u16),
+            method: random.of(&[0, 3, 4, 5 * spoiled]),
+            former: random.of(&[0, 3, 4, 5 * spoiled]),
+            older: random.below(usize::from(stored + spoiled) + 1) as u8,
+        };
+        let method = random.of(&[3, 4, 3, 4, 7]);
+        let what = || format!("order {n} {w} {station:?} {method}");
+        self.same(&what, 21, &|calls, out, values| {
+            let mut after = station;
+            let refusal = calls.order((n, w), &mut after, method, &mut values[0]);
+            out.copy_from_slice(&bytes_of(&after));
+            refusal
+        });
+        let size = usize::from(w) * 4_096;
+        let short = random.below(40) / 39;
+        let store = random.bytes(size.saturating_sub(short));
+        let (number, room) = (random.below(1 << (n & 7)) as u8, random.few(120));
+        let what = || format!("send {n} {w} {station:?} {number} {room}");
+        self.same(&what, room, &|calls, out, values| {
+            calls.send((n, w), &station, &store, number, out, &mut values[0])
+        });
+    }
+
+    /// An order and a block told on one record, mostly a right one.
+    fn tell_round(&mut self, random: &mut Random) {
+        let n = random.below(9) as u8;
+        let spoiled = u8::from(random.once_in(6));
+        let below = |random: &mut Random| random.below((1 << (n & 7)) + usize::from(spoiled)) as u8;
+        let receiver = Receiver {
+            n,
+            w: below(random).max(1),
+            c: below(random),
+            method: random.of(&[0, 3, 4, 5 * spoiled]),
+            waiting: random.of(&[0, 0, 3, 4, 5 * spoiled]),
+            number: below(random),
+        };
+        let number = match random.below(3) {
+            0 => below(random),
+            _ => receiver.c,
+        };
+        let method = random.of(&[3, 4, 3, 4, 7]);
+        let told = |receiver: &Receiver| {
+            let Receiver { n, w, c, method, waiting, number } = *receiver;
+            [n, w, c, method, waiting, number]
+        };
+        let what = || format!("tell an order {receiver:?} {number} {method}");
+        self.same(&what, 6, &|calls, out, _| {
+            let mut after = receiver;
+            let refusal = calls.tell_order(&mut after, number, method);
+            out.copy_from_slice(&told(&after));
+            refusal
+        });
+        let parts = Parts {
+            link: Link::koi7(random.of(&[3, 4]), false),
+            shape: SHAPES[3],
+            end_sign: ENDS[0],
+            header: Vec::new(),
+            text: {
+                let length = random.few(30);
+                random.bytes(length)
+            },
+        };
+        let line = block::write(&parts).expect("a block of clear text");
+        let room = random.few(60);
+        let what = || format!("tell a block {receiver:?} {number} {line:02X?} {room}");
+        self.same(&what, room + 6 + 48, &|calls, out, _| {
+            let (text, record) = out.split_at_mut(room);
+            let (mut after, mut answer) = (receiver, [0; 6]);
+            let refusal = calls.tell_block(&mut after, number, &line, text, &mut answer);
+            record[..6].copy_from_slice(&told(&after));
+            for (place, value) in answer.iter().enumerate() {
+                record[6 + 8 * place..][..8].copy_from_slice(&value.to_le_bytes());
+            }
             refusal
         });
     }
@@ -185,13 +274,13 @@ impl Agreement<'_> {
         }
         let room = (usize::from(w) * 4_096 + random.below(3)).saturating_sub(1);
         let what = || format!("replay_panel {n} {w} {trace:?} {room}");
-        self.same(&what, room + 19, &|calls, out, values| {
+        self.same(&what, room + 22, &|calls, out, values| {
             let (store, end) = out.split_at_mut(room);
             let (mut station, mut c) = (Station::default(), 0x5A);
             let told = (&mut station, &mut c);
             let refusal = calls.replay_panel((n, w), &trace, store, told, &mut values[0]);
-            end[..18].copy_from_slice(&bytes_of(&station));
-            end[18] = c;
+            end[..21].copy_from_slice(&bytes_of(&station));
+            end[21] = c;
             refusal
         });
     }
@@ -304,13 +393,14 @@ impl Agreement<'_> {
     }
 }
 
-/// A record in 18 bytes.
-fn bytes_of(station: &Station) -> [u8; 18] {
-    let mut bytes = [0; 18];
+/// A record in 21 bytes.
+fn bytes_of(station: &Station) -> [u8; 21] {
+    let mut bytes = [0; 21];
     bytes[..3].copy_from_slice(&[station.next, station.stored, station.cell]);
     for (place, length) in station.lengths.iter().enumerate() {
         bytes[4 + 2 * place..][..2].copy_from_slice(&length.to_le_bytes());
     }
+    bytes[18..].copy_from_slice(&[station.method, station.former, station.older]);
     bytes
 }
 
@@ -343,6 +433,8 @@ pub fn run(peers: &[&'static Calls]) -> u64 {
         agreement.block_round(&mut random, if long { 4_200 } else { 14 });
         agreement.frame_round(&mut random, if long { 4_200 } else { 12 });
         agreement.sender_round(&mut random);
+        agreement.order_round(&mut random);
+        agreement.tell_round(&mut random);
         agreement.interleave_round(&mut random, if long { 4_200 } else { 70 });
         agreement.replay_round(&mut random);
         agreement.joins(&mut random);

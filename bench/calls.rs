@@ -21,6 +21,16 @@ type Submit = unsafe extern "C" fn(
 type Acknowledge = unsafe extern "C" fn(
     u8, u8, *mut Station, *const u8, usize, u8, *mut usize,
 ) -> u32;
+type Order = unsafe extern "C" fn(u8, u8, *mut Station, u8, *mut usize) -> u32;
+#[rustfmt::skip]
+type Send = unsafe extern "C" fn(
+    u8, u8, *const Station, *const u8, usize, u8, *mut u8, usize, *mut usize,
+) -> u32;
+type TellOrder = unsafe extern "C" fn(*mut Receiver, u8, u8) -> u32;
+#[rustfmt::skip]
+type TellBlock = unsafe extern "C" fn(
+    *mut Receiver, u8, *const u8, usize, *mut u8, usize, *mut usize,
+) -> u32;
 type Interleave = unsafe extern "C" fn(usize, *const u8, usize, *mut u8, usize) -> u32;
 #[rustfmt::skip]
 type ReplayPanel = unsafe extern "C" fn(
@@ -40,6 +50,10 @@ pub struct Calls {
     receive: Receive,
     submit: Submit,
     acknowledge: Acknowledge,
+    order: Order,
+    send: Send,
+    tell_order: TellOrder,
+    tell_block: TellBlock,
     interleave: Interleave,
     deinterleave: Interleave,
     replay_panel: ReplayPanel,
@@ -63,6 +77,21 @@ pub struct Station {
     pub stored: u8,
     pub cell: u8,
     pub lengths: [u16; 7],
+    pub method: u8,
+    pub former: u8,
+    pub older: u8,
+}
+
+/// The record of a receiving station.
+#[derive(Clone, Copy, Default, PartialEq, Eq, Debug)]
+#[repr(C)]
+pub struct Receiver {
+    pub n: u8,
+    pub w: u8,
+    pub c: u8,
+    pub method: u8,
+    pub waiting: u8,
+    pub number: u8,
 }
 
 /// A check, and the bytes of its part.
@@ -170,6 +199,51 @@ impl Calls {
     }
 
     #[inline(always)]
+    pub fn order(
+        &self,
+        (n, w): (u8, u8),
+        station: &mut Station,
+        method: u8,
+        value: &mut usize,
+    ) -> u32 {
+        unsafe { (self.order)(n, w, station, method, value) }
+    }
+
+    #[inline(always)]
+    pub fn send(
+        &self,
+        (n, w): (u8, u8),
+        station: &Station,
+        store: &[u8],
+        number: u8,
+        out: &mut [u8],
+        value: &mut usize,
+    ) -> u32 {
+        let (length, store) = (store.len(), store.as_ptr());
+        let (room, out) = (out.len(), out.as_mut_ptr());
+        unsafe { (self.send)(n, w, station, store, length, number, out, room, value) }
+    }
+
+    #[inline(always)]
+    pub fn tell_order(&self, receiver: &mut Receiver, number: u8, method: u8) -> u32 {
+        unsafe { (self.tell_order)(receiver, number, method) }
+    }
+
+    #[inline(always)]
+    pub fn tell_block(
+        &self,
+        receiver: &mut Receiver,
+        number: u8,
+        line: &[u8],
+        out: &mut [u8],
+        answer: &mut [usize; 6],
+    ) -> u32 {
+        let (length, line) = (line.len(), line.as_ptr());
+        let (room, out) = (out.len(), out.as_mut_ptr());
+        unsafe { (self.tell_block)(receiver, number, line, length, out, room, answer.as_mut_ptr()) }
+    }
+
+    #[inline(always)]
     pub fn interleave(&self, d: usize, text: &[u8], out: &mut [u8]) -> u32 {
         let (room, out) = (out.len(), out.as_mut_ptr());
         unsafe { (self.interleave)(d, text.as_ptr(), text.len(), out, room) }
@@ -230,10 +304,11 @@ impl Calls {
     }
 }
 
-/// Declares the twenty functions of a linked library and gathers them.
+/// Declares the functions of a linked library and gathers them.
 macro_rules! linked {
     ($calls:ident, $name:literal, $read_block:ident, $write_block:ident, $read_frame:ident, $write_frame:ident,
      $receive:ident, $submit:ident, $acknowledge:ident, $interleave:ident, $deinterleave:ident,
+     $order:ident, $send:ident, $tell_order:ident, $tell_block:ident,
      $replay_panel:ident,
      $write_fixed:ident, $read_fixed:ident,
      $check_3:ident, $check_4:ident, $check_5:ident, $check_6:ident,
@@ -249,6 +324,11 @@ macro_rules! linked {
             fn $submit(_: u8, _: u8, _: *mut Station, _: *mut u8, _: usize,
                 _: *const u8, _: usize, _: *mut usize) -> u32;
             fn $acknowledge(_: u8, _: u8, _: *mut Station, _: *const u8, _: usize, _: u8, _: *mut usize) -> u32;
+            fn $order(_: u8, _: u8, _: *mut Station, _: u8, _: *mut usize) -> u32;
+            fn $send(_: u8, _: u8, _: *const Station, _: *const u8, _: usize, _: u8,
+                _: *mut u8, _: usize, _: *mut usize) -> u32;
+            fn $tell_order(_: *mut Receiver, _: u8, _: u8) -> u32;
+            fn $tell_block(_: *mut Receiver, _: u8, _: *const u8, _: usize, _: *mut u8, _: usize, _: *mut usize) -> u32;
             fn $interleave(_: usize, _: *const u8, _: usize, _: *mut u8, _: usize) -> u32;
             fn $deinterleave(_: usize, _: *const u8, _: usize, _: *mut u8, _: usize) -> u32;
             fn $replay_panel(_: u8, _: u8, _: *const u8, _: usize, _: *mut u8, _: usize,
@@ -273,6 +353,10 @@ macro_rules! linked {
             receive: $receive,
             submit: $submit,
             acknowledge: $acknowledge,
+            order: $order,
+            send: $send,
+            tell_order: $tell_order,
+            tell_block: $tell_block,
             interleave: $interleave,
             deinterleave: $deinterleave,
             replay_panel: $replay_panel,
@@ -293,6 +377,7 @@ macro_rules! linked {
 #[rustfmt::skip]
 linked!(LIBRARY, "library", corridor_read_block, corridor_write_block, corridor_read_frame, corridor_write_frame,
     corridor_receive, corridor_submit, corridor_acknowledge, corridor_interleave, corridor_deinterleave,
+    corridor_order, corridor_send, corridor_tell_order, corridor_tell_block,
     corridor_replay_panel,
     corridor_write_fixed, corridor_read_fixed,
     corridor_check_3, corridor_check_4, corridor_check_5, corridor_check_6,
@@ -300,6 +385,7 @@ linked!(LIBRARY, "library", corridor_read_block, corridor_write_block, corridor_
 #[rustfmt::skip]
 linked!(PLAIN_C, "C", plain_read_block, plain_write_block, plain_read_frame, plain_write_frame,
     plain_receive, plain_submit, plain_acknowledge, plain_interleave, plain_deinterleave,
+    plain_order, plain_send, plain_tell_order, plain_tell_block,
     plain_replay_panel,
     plain_write_fixed, plain_read_fixed,
     plain_check_3, plain_check_4, plain_check_5, plain_check_6,
@@ -314,6 +400,10 @@ pub static RUST: Calls = Calls {
     receive: shell::receive,
     submit: shell::submit,
     acknowledge: shell::acknowledge,
+    order: shell::order,
+    send: shell::send,
+    tell_order: shell::tell_order,
+    tell_block: shell::tell_block,
     interleave: shell::interleave,
     deinterleave: shell::deinterleave,
     replay_panel: shell::replay_panel,

@@ -1,6 +1,6 @@
 //! The timed inputs: one case for each call, kind and length.
 
-use crate::calls::{Calls, Form, Part, Station, LIBRARY};
+use crate::calls::{Calls, Form, Part, Receiver, Station, LIBRARY};
 use crate::corridor::{longest_frame, longest_line, FrameMethod, Shape};
 use crate::peer::sender::CELL;
 use crate::peer::signs::{Link, SYN};
@@ -217,6 +217,76 @@ pub fn acknowledge() -> Case {
         let number = (next + 4) % 8;
         black_box(calls.acknowledge((3, 7), &mut station, &store, number, &mut value));
         black_box((&station, &value));
+    })
+}
+
+/// Orders on a record whose stored blocks all went before, modulus 8.
+pub fn order() -> Case {
+    let mut value = 0;
+    in_turn((0..8).collect(), move |calls, next: &u8| {
+        let mut station = Station {
+            next: *next,
+            stored: 5,
+            method: 4,
+            ..Station::default()
+        };
+        black_box(calls.order((3, 7), &mut station, 3, &mut value));
+        black_box((&station, &value));
+    })
+}
+
+/// Orders told ahead of their number, modulus 8.
+pub fn tell_order() -> Case {
+    in_turn((0..8).collect(), move |calls, c: &u8| {
+        let mut receiver = awaiting(*c, 4);
+        black_box(calls.tell_order(&mut receiver, (c + 2) % 8, 3));
+        black_box(&receiver);
+    })
+}
+
+fn awaiting(c: u8, method: u8) -> Receiver {
+    Receiver {
+        n: 3,
+        w: 7,
+        c,
+        method,
+        ..Receiver::default()
+    }
+}
+
+/// Stored blocks of a length sent, under method 3 and, those from before the
+/// order, 4.
+pub fn send(random: &mut Random, length: usize) -> Case {
+    let store = random.bytes(7 * CELL);
+    let station = Station {
+        stored: 6,
+        next: 6,
+        cell: 6,
+        lengths: [length as u16; 7],
+        method: 3,
+        former: 4,
+        older: 3,
+    };
+    let (mut out, mut value) = (vec![0; longest_line(Shape::ClearText, 0, length)], 0);
+    in_turn((0..6).collect(), move |calls, number: &u8| {
+        black_box(calls.send((3, 7), &station, &store, *number, &mut out, &mut value));
+        black_box((&out, &value));
+    })
+}
+
+/// New blocks of clear text told under method 3.
+pub fn tell_block(random: &mut Random, length: usize) -> Case {
+    let lines = several(length, || {
+        written(&Form {
+            shape: 4,
+            ..form(random, (3, 0), length)
+        })
+    });
+    let (mut out, mut answer) = (vec![0; length], [0; 6]);
+    in_turn(lines, move |calls, line| {
+        let mut receiver = awaiting(5, 3);
+        black_box(calls.tell_block(&mut receiver, 5, line, &mut out, &mut answer));
+        black_box((&receiver, &out, &answer));
     })
 }
 

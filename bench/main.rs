@@ -147,6 +147,8 @@ fn numbers(word: &str) -> Table {
     let mut rows = Rows::of(word);
     rows.add("receive      modulus 8", &[1], |_| inputs::receive());
     rows.add("acknowledge  window 7", &[1], |_| inputs::acknowledge());
+    rows.add("order        window 7", &[1], |_| inputs::order());
+    rows.add("tell_order   modulus 8", &[1], |_| inputs::tell_order());
     Table {
         title: "numbers, one a call",
         lengths: &[1],
@@ -162,8 +164,14 @@ fn submissions(random: &mut Random, word: &str) -> Table {
     rows.beside(&COPY, "submit       against memcpy", &STORED, |length| {
         inputs::submit(random, length)
     });
+    rows.add("send         window 7", &STORED, |length| {
+        inputs::send(random, length)
+    });
+    rows.add("tell_block   modulus 8", &STORED, |length| {
+        inputs::tell_block(random, length)
+    });
     Table {
-        title: "submissions, by bytes of the block",
+        title: "submissions, sent and told blocks, by bytes of the block",
         lengths: &STORED,
         rows: rows.rows,
     }

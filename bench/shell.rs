@@ -1,7 +1,7 @@
 //! The fast peer behind the C interface: codes in, numbers out. KOI-7 is the
 //! one code of signs that it knows.
 
-use crate::calls::Station;
+use crate::calls::{Receiver, Station};
 use crate::peer::signs::{Link, ENDS, METHODS, SHAPES};
 use crate::peer::Refusal;
 use crate::peer_fast::{self, Parts};
@@ -110,6 +110,56 @@ pub unsafe extern "C" fn acknowledge(
     n: u8, w: u8, station: *mut Station, _: *const u8, room: usize, number: u8, value: *mut usize,
 ) -> u32 {
     sent(peer_fast::acknowledge((n, w), &mut *station, room, number), value)
+}
+
+fn ordered(method: u8) -> Result<(), Refusal> {
+    match method {
+        3 | 4 => Ok(()),
+        _ => Err(UNKNOWN_CODE),
+    }
+}
+
+#[rustfmt::skip]
+pub unsafe extern "C" fn order(
+    n: u8, w: u8, station: *mut Station, method: u8, value: *mut usize,
+) -> u32 {
+    let answer = ordered(method).and_then(|()| peer_fast::order((n, w), &mut *station, method));
+    sent(answer, value)
+}
+
+#[rustfmt::skip]
+pub unsafe extern "C" fn send(
+    n: u8, w: u8, station: *const Station, store: *const u8, length: usize, number: u8,
+    out: *mut u8, room: usize, value: *mut usize,
+) -> u32 {
+    let store = slice::from_raw_parts(store, length);
+    let out = slice::from_raw_parts_mut(out, room);
+    answered(peer_fast::send((n, w), &*station, store, number, out), value)
+}
+
+pub unsafe extern "C" fn tell_order(receiver: *mut Receiver, number: u8, method: u8) -> u32 {
+    told(ordered(method).and_then(|()| peer_fast::tell_order(&mut *receiver, number, method)))
+}
+
+#[rustfmt::skip]
+pub unsafe extern "C" fn tell_block(
+    receiver: *mut Receiver, number: u8, line: *const u8, length: usize,
+    out: *mut u8, room: usize, answer: *mut usize,
+) -> u32 {
+    let line = slice::from_raw_parts(line, length);
+    let out = slice::from_raw_parts_mut(out, room);
+    let answer = slice::from_raw_parts_mut(answer, 6);
+    match peer_fast::tell_block(&mut *receiver, number, line, out) {
+        Ok(values) => {
+            answer.copy_from_slice(&values);
+            0
+        }
+        Err(Refusal { number, value }) => {
+            answer.fill(0);
+            answer[1] = value;
+            number
+        }
+    }
 }
 
 /// Number of an answer without a value.

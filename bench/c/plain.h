@@ -9,6 +9,10 @@
 #define corridor_receive plain_receive
 #define corridor_submit plain_submit
 #define corridor_acknowledge plain_acknowledge
+#define corridor_order plain_order
+#define corridor_send plain_send
+#define corridor_tell_order plain_tell_order
+#define corridor_tell_block plain_tell_block
 #define corridor_interleave plain_interleave
 #define corridor_deinterleave plain_deinterleave
 #define corridor_replay_panel plain_replay_panel
@@ -25,6 +29,10 @@
 #include "../../include/corridor.h"
 
 void plain_init(void);
+
+/* Questions 41, 51 and 6 of a sender; 6 with the bytes needed. */
+uint32_t sender_asked(uint8_t n, uint8_t w, const corridor_station *station,
+                      size_t store_length, size_t *value);
 
 /* The copy of plain_submit alone. */
 uint32_t copy_submit(uint8_t n, uint8_t w, corridor_station *station,

@@ -2,8 +2,13 @@
 #include "plain.h"
 #include <string.h>
 
+static int keeps_method(uint8_t byte)
+{
+    return byte == 0 || byte == 3 || byte == 4;
+}
+
 /* Questions 41, 51 and 6. */
-static uint32_t asked(uint8_t n, uint8_t w, const corridor_station *station,
+uint32_t sender_asked(uint8_t n, uint8_t w, const corridor_station *station,
                       size_t store_length, size_t *value)
 {
     *value = 0;
@@ -17,6 +22,9 @@ static uint32_t asked(uint8_t n, uint8_t w, const corridor_station *station,
     for (int cell = 0; cell < 7; cell++)
         if (station->lengths[cell] > CORRIDOR_LONGEST_STORED)
             return 51;
+    if (station->older > station->stored || !keeps_method(station->method) ||
+        !keeps_method(station->former))
+        return 51;
     if (store_length < (size_t)w * CORRIDOR_CELL) {
         *value = (size_t)w * CORRIDOR_CELL;
         return 6;
@@ -28,7 +36,7 @@ uint32_t plain_submit(uint8_t n, uint8_t w, corridor_station *station,
                       uint8_t *store, size_t store_length,
                       const uint8_t *block, size_t block_length, size_t *value)
 {
-    uint32_t number = asked(n, w, station, store_length, value);
+    uint32_t number = sender_asked(n, w, station, store_length, value);
     if (number != 0)
         return number;
     if (block_length > CORRIDOR_LONGEST_STORED)
@@ -49,7 +57,7 @@ uint32_t plain_acknowledge(uint8_t n, uint8_t w, corridor_station *station,
                            uint8_t number, size_t *value)
 {
     (void)store;
-    uint32_t refusal = asked(n, w, station, store_length, value);
+    uint32_t refusal = sender_asked(n, w, station, store_length, value);
     if (refusal != 0)
         return refusal;
     unsigned mask = (1u << n) - 1;
@@ -57,6 +65,8 @@ uint32_t plain_acknowledge(uint8_t n, uint8_t w, corridor_station *station,
     if (number > mask || left >= station->stored)
         return 56;
     *value = station->stored - left;
+    station->older =
+        (uint8_t)(station->older > *value ? station->older - *value : 0);
     station->stored = (uint8_t)left;
     return 0;
 }

@@ -5,7 +5,7 @@ use crate::peer::sender::CELL;
 use crate::peer::{ask, Refusal};
 
 /// Questions 41, 51 and 6; gives the mask of the numbers.
-fn questions(n: u8, w: u8, station: &Station, room: usize) -> Result<u8, Refusal> {
+pub fn questions(n: u8, w: u8, station: &Station, room: usize) -> Result<u8, Refusal> {
     ask((1..=7).contains(&n), Refusal::plain(41))?;
     let modulus = 1_u8 << n;
     let window = (1..=7).contains(&w) && w < modulus;
@@ -14,7 +14,9 @@ fn questions(n: u8, w: u8, station: &Station, room: usize) -> Result<u8, Refusal
         .lengths
         .iter()
         .fold(0, |most, length| most.max(*length));
-    ask(window && places && longest <= 4_095, Refusal::plain(51))?;
+    let kept = |byte: u8| [0, 3, 4].contains(&byte);
+    let orders = station.older <= station.stored && kept(station.method) && kept(station.former);
+    ask(window && places && longest <= 4_095 && orders, Refusal::plain(51))?;
     let needed = usize::from(w) * CELL;
     ask(needed <= room, Refusal::with(6, needed))?;
     Ok(modulus - 1)
@@ -53,6 +55,7 @@ pub fn acknowledge(
     let left = station.next.wrapping_sub(1).wrapping_sub(number) & mask;
     ask(number <= mask && left < station.stored, Refusal::plain(56))?;
     let freed = station.stored - left;
+    station.older = station.older.saturating_sub(freed);
     station.stored = left;
     Ok(freed)
 }
