@@ -67,7 +67,9 @@ pub fn submit_zeros(n: u8, w: u8, station: Station, store: &mut [u8], len: usize
     }
 }
 
-// Frees the named block and all before it, and answers how many.
+// Frees the named block and all before it, and answers how many. Its questions serve `send` too, and made as a call of its own it took
+// twice the time.
+#[inline]
 pub fn acknowledge(n: u8, w: u8, station: Station, store: &[u8], number: u8) -> SenderResult
     ensures { outcome_of result ≡ rule.acknowledging n w station (length store.now) number }
 {
