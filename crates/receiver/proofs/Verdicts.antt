@@ -27,7 +27,7 @@ judged-new w d e = go (eqb d 0) (leb d w) refl e
     go false false p q = let x : ◌≡◌ {A = ℕ} 0 1 = cc in absurd (omega arith)
 
 module _ (r : Receiver) (b : ℕ) (z : Right r) (below : b < 2 ^ r.n) where
-  right_judged : verdict_on r b ≡ judged r.w (difference (2 ^ r.n) r.c b)
+  pub right_judged : verdict_on r b ≡ judged r.w (difference (2 ^ r.n) r.c b)
   unfolding verdict_for
   right_judged =
       record_passes r b (z.n_least) (z.n_most) (z.record_kept)

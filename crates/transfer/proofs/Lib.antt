@@ -1,3 +1,4 @@
 pub mod Following
 pub mod Sent
 pub mod Transfers
+pub mod Making

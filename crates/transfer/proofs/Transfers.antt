@@ -57,10 +57,10 @@ use Rattle.transfer.proofs.Sent.{sent_line, Written, line_written}
 -- ---- the receiver's record that follows from the sender's
 
 -- how many blocks stand before the first that goes under the last order's method
-abbrev first_new : History → ℕ
+abbrev pub first_new : History → ℕ
 first_new h = h.freed + h.station.older
 
-abbrev expected : ℕ → ℕ → History → ℕ → Receiver
+abbrev pub expected : ℕ → ℕ → History → ℕ → Receiver
 expected n w h t = after_taking n w h.station.former h.station.method (first_new h) t
 
 byte-named : (m : CyclicMethod) → byte_of m ≡ 0 → ⊥
@@ -88,7 +88,7 @@ module _ (n w : ℕ) (h : History) (z : Holds n w h) (t : ℕ) (f : h.freed ≤ 
       let o : s.older ≤ s.stored = g.older_most in
       omega (arith, near g)
 
-  expected_right : Right n w s → judged.Right r
+  pub expected_right : Right n w s → judged.Right r
   expected_right g =
       record {
         n_least = g.agreed.n_least;
@@ -243,7 +243,7 @@ module _ (t : BlockResult) (out after : List ℕ) (o : Outcome BlockAnswer) (e :
   received_as received = received_told t.answer after received ∙ ap (λ x. received_by x after received) answer_told
 
 -- of a block of clear text that was taken
-abbrev parts_of : List ℕ → reads.Parts
+abbrev pub parts_of : List ℕ → reads.Parts
 parts_of bytes = parts_written koi7 ClearText Etx [] bytes
 
 module _ (t : BlockResult) (out after bytes : List ℕ) (x : Receiver)
@@ -273,14 +273,14 @@ module _ (t : BlockResult) (out after bytes : List ℕ) (x : Receiver)
 
 -- ---- the invariant
 
-record Agrees (n w : ℕ) (s : System) : Type 0 where
-  holds : Holds n w s.history
-  freed_taken : s.history.freed ≤ length s.received
-  taken_accepted : length s.received ≤ length s.history.accepted
-  in_order : s.received ≡ map bytes_of_block (take (length s.received) s.history.accepted)
-  follows : s.receiver ≡ expected n w s.history (length s.received)
+pub record Agrees (n w : ℕ) (s : System) : Type 0 where
+  pub holds : Holds n w s.history
+  pub freed_taken : s.history.freed ≤ length s.received
+  pub taken_accepted : length s.received ≤ length s.history.accepted
+  pub in_order : s.received ≡ map bytes_of_block (take (length s.received) s.history.accepted)
+  pub follows : s.receiver ≡ expected n w s.history (length s.received)
   -- where blocks from before an order are stored, the order named a method
-  named : 0 < s.history.station.older → s.history.station.method ≡ 0 → ⊥
+  pub named : 0 < s.history.station.older → s.history.station.method ≡ 0 → ⊥
 
 module _ {n w : ℕ} {s : System} (z : Agrees n w s) where
   abbrev h : History
@@ -371,13 +371,13 @@ module _ {n w : ℕ} {s : System} (z : Agrees n w s) where
       }
 
   -- what the receiver answers to an order that the sender took
-  order_taken : (m : CyclicMethod) (r : SenderResult) (number : ℕ) (o : OrderResult) → outcome_of r ≡ ordering n w st m → r.answer ≡ Ok number
-      → order_outcome o ≡ telling_order s.receiver number m
-      → order_outcome o ≡ record { answer = noted; receiver = after_taking n w st.method (byte_of m) (h.freed + st.stored) t }
-  order_taken m r number o e q told =
+  pub order_taken : (m : CyclicMethod) (r : SenderResult) (number : ℕ) → outcome_of r ≡ ordering n w st m → r.answer ≡ Ok number
+      → telling_order s.receiver number m
+      ≡ record { answer = noted; receiver = after_taking n w st.method (byte_of m) (h.freed + st.stored) t }
+  order_taken m r number e q =
       let f = order_done n w st m r.answer e q in
       let g = order_passed n w st (f.0) in
-      told ∙ ap₂ (λ (x : Receiver) k. telling_order x k m) (z.follows) (f.1)
+      ap₂ (λ (x : Receiver) k. telling_order x k m) (z.follows) (f.1)
       ∙ order_told_at_once n w h (z.holds) t (z.freed_taken) (z.taken_accepted) m (g.0) (g.1)
 
   order_told_agrees : (m : CyclicMethod) (r : SenderResult) (number : ℕ) (o : OrderResult) → outcome_of r ≡ ordering n w st m
@@ -390,22 +390,21 @@ module _ {n w : ℕ} {s : System} (z : Agrees n w s) where
         freed_taken = z.freed_taken;
         taken_accepted = z.taken_accepted;
         in_order = z.in_order;
-        follows = rw (f.2) (ap (λ (x : Outcome OrderAnswer). x.receiver) (order_taken m r number o e q told));
+        follows = rw (f.2) (ap (λ (x : Outcome OrderAnswer). x.receiver) (told ∙ order_taken m r number e q));
         named = rw (f.2) (λ some. byte-named m);
       }
 
   -- ---- a line is sent
 
   -- what the receiver answers to a line whose number is new
-  line_taken : (number len : ℕ) (line : List ℕ) (b : BlockResult) (out after : List ℕ) → (x : Sent n w h number len line)
-      → length (named n w h number) ≤ length out → called (block_outcome b) after ≡ block_call s.receiver number line out
-      → verdict_on s.receiver number ≡ new
-      → called (block_outcome b) after
+  pub line_taken : (number len : ℕ) (line out : List ℕ) → (x : Sent n w h number len line)
+      → length (named n w h number) ≤ length out → verdict_on s.receiver number ≡ new
+      → block_call s.receiver number line out
       ≡ after_telling (record { answer = taken (parts_of (named n w h number)); receiver = expected n w h (t + 1) }) out
-  line_taken number len line b out after x enough told is_new =
+  line_taken number len line out x enough is_new =
       let y = line_written n w st h.store number (length x.output) line (sent_line x) in
       let q : verdict_on (expected n w h t) number ≡ new = ap (λ (r : Receiver). verdict_on r number) (sym (z.follows)) ∙ is_new in
-      told ∙ ap (λ (r : Receiver). after_telling (telling_block r number line (length out)) out) (z.follows)
+      ap (λ (r : Receiver). after_telling (telling_block r number line (length out)) out) (z.follows)
       ∙ ap (λ (o : Outcome BlockAnswer). after_telling o out)
       (new_block_taken n w h (z.holds) t (z.freed_taken) (z.taken_accepted) number (length x.output) line y q (length out) enough waiting_named)
 
@@ -453,7 +452,7 @@ module _ {n w : ℕ} {s : System} (z : Agrees n w s) where
           taken_agrees b out after (named n w h number)
           (not_all n w h (z.holds) t (z.freed_taken) (z.taken_accepted) number (length x.output) line y q)
           (awaited_bytes n w h (z.holds) t (z.freed_taken) (z.taken_accepted) number (length x.output) line y q)
-          (line_taken number len line b out after x enough told p)
+          (told ∙ line_taken number len line out x enough p)
       go numbering.repeat p =
           unread_agrees b out after receiver.repeated (λ output. refl) (told ∙ ap (λ v. after_telling (on_block s.receiver line (length out) v) out) p)
       go numbering.lost p =
@@ -471,7 +470,7 @@ module _ {n w : ℕ} {s : System} (z : Agrees n w s) where
   new_taken number len line b out after x enough told p =
       let y = line_written n w st h.store number (length x.output) line (sent_line x) in
       let q : verdict_on (expected n w h t) number ≡ new = ap (λ (r : Receiver). verdict_on r number) (sym (z.follows)) ∙ p in
-      let e = line_taken number len line b out after x enough told p in
+      let e = told ∙ line_taken number len line out x enough p in
       let same : (awaited s).bytes ≡ named n w h number =
       awaited_bytes n w h (z.holds) t (z.freed_taken) (z.taken_accepted) number (length x.output) line y q in
       let bytes = named n w h number in (
@@ -501,13 +500,13 @@ module _ {n w : ℕ} {s : System} (z : Agrees n w s) where
   order_is_noted : (m : CyclicMethod) (r : SenderResult) (number : ℕ) (o : OrderResult) → outcome_of r ≡ ordering n w st m
       → r.answer ≡ Ok number → order_outcome o ≡ telling_order s.receiver number m → o.answer ≡ Ok tt
   order_is_noted m r number o e q told =
-      order_answer_injective o.answer (Ok tt) (ap (λ (x : Outcome OrderAnswer). x.answer) (order_taken m r number o e q told))
+      order_answer_injective o.answer (Ok tt) (ap (λ (x : Outcome OrderAnswer). x.answer) (told ∙ order_taken m r number e q))
 
   delivers : Delivers n w s
   delivers =
       record { kept = kept (z.holds); in_order = z.in_order; new_taken = new_taken; awaited_new = awaited_is_new; order_noted = order_is_noted }
 
-run_agrees : {n w : ℕ} {s s' : System} → Steps n w s s' → Agrees n w s → Agrees n w s'
+pub run_agrees : {n w : ℕ} {s s' : System} → Steps n w s s' → Agrees n w s → Agrees n w s'
 run_agrees none z = z
 run_agrees (submit bytes r after e rest) z = run_agrees rest (submit_agrees z bytes r after e)
 run_agrees (acknowledge number r e only_taken rest) z = run_agrees rest (acknowledge_agrees z number r e only_taken)
@@ -516,7 +515,7 @@ run_agrees (order_told m r number t e q told rest) z = run_agrees rest (order_to
 run_agrees (line_told number len line t out after x enough told rest) z =
     run_agrees rest (line_agrees z number len line t out after x enough told)
 
-begins_agree : (n w : ℕ) (store : List ℕ) → Agrees n w (begin n w store)
+pub begins_agree : (n w : ℕ) (store : List ℕ) → Agrees n w (begin n w store)
 begins_agree n w store =
     record {
       holds = begins n w store;

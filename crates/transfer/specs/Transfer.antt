@@ -1,6 +1,6 @@
 -- A fresh sender and a fresh receiver of one n and w. The receiver gets each order that was not refused and each sent line at once and
 -- unaltered, with output enough, and only taken blocks are acknowledged (document 02, card 14). Assumes nothing.
-use Rattle.std.specs.Prelude.{◌≡◌, ℕ, ◌+◌, ◌<◌, ◌≤◌, List, [], ◌∷◌, ◌++◌, map, length, get_or, take, drop, Result, Ok, Err}
+use Rattle.std.specs.Prelude.{◌≡◌, ℕ, ◌+◌, ◌%◌, ◌^◌, ◌<◌, ◌≤◌, List, [], ◌∷◌, ◌++◌, map, length, get_or, take, drop, Result, Ok, Err}
 use Rattle.bits.specs.Calls.{called}
 use Rattle.number.specs.Number.{new}
 use Rattle.block.specs.declared.Block as block
@@ -107,6 +107,36 @@ pub record Delivers (n w : ℕ) (s : System) : Type 0 where
   -- no order that the sender took is refused by the receiver
   pub order_noted : (m : CyclicMethod) (r : SenderResult) (number : ℕ) (t : OrderResult) → outcome_of r ≡ ordering n w s.history.station m
       → r.answer ≡ Ok number → order_outcome t ≡ telling_order s.receiver number m → t.answer ≡ Ok tt
+
+-- ---- and there are such steps
+
+-- an order, which the sender refuses or the receiver is told
+pub data OrderMade (n w : ℕ) (s : System) (m : CyclicMethod) : Type 0 where
+  refused : (r : SenderResult) (x : SenderRefusal) → outcome_of r ≡ ordering n w s.history.station m → r.answer ≡ Err x → OrderMade n w s m
+  told : (r : SenderResult) (number : ℕ) (t : OrderResult) → outcome_of r ≡ ordering n w s.history.station m → r.answer ≡ Ok number
+      → order_outcome t ≡ telling_order s.receiver number m → OrderMade n w s m
+
+-- a line sent and told, of an output of the receiver
+pub record LineMade (n w : ℕ) (s : System) (number : ℕ) (out : List ℕ) : Type 0 where
+  pub len : ℕ
+  pub line : List ℕ
+  pub sent : Sent n w s.history number len line
+  pub enough : length (named n w s.history number) ≤ length out
+  pub told : BlockResult
+  pub after : List ℕ
+  pub meets : called (block_outcome told) after ≡ block_call s.receiver number line out
+
+-- every order can be given, and every stored block can be sent and told, into an output of the sender of 8,196 bytes and one of the
+-- receiver of 4,095
+pub record GoesOn (n w : ℕ) (s : System) : Type 0 where
+  pub orders : (m : CyclicMethod) → OrderMade n w s m
+  pub lines : (i : ℕ) (output out : List ℕ) → s.history.freed ≤ i → i < length s.history.accepted → 8196 ≤ length output → 4095 ≤ length out
+      → LineMade n w s (i % 2 ^ n) out
+
+abbrev pub EveryStepCanBeMade : Type 0
+EveryStepCanBeMade = (n w : ℕ) (store : List ℕ) (s : System) → Steps n w (begin n w store) s → GoesOn n w s
+
+-- ---- whatever is done
 
 abbrev pub EveryNewBlockIsTaken : Type 0
 EveryNewBlockIsTaken = (n w : ℕ) (store : List ℕ) (s : System) → Steps n w (begin n w store) s → Delivers n w s
