@@ -207,7 +207,14 @@ impl Agreement<'_> {
         };
         let method = random.of(&[3, 4, 3, 4, 7]);
         let told = |receiver: &Receiver| {
-            let Receiver { n, w, c, method, waiting, number } = *receiver;
+            let Receiver {
+                n,
+                w,
+                c,
+                method,
+                waiting,
+                number,
+            } = *receiver;
             [n, w, c, method, waiting, number]
         };
         let what = || format!("tell an order {receiver:?} {number} {method}");

@@ -381,11 +381,7 @@ pub fn tell_order(
     number: u8,
     method: CyclicMethod,
 ) -> Result<(), Refusal> {
-    value_of(
-        codes::tell_order(&mut receiver.0, number, method as u8),
-        0,
-    )
-    .map(|_| ())
+    value_of(codes::tell_order(&mut receiver.0, number, method as u8), 0).map(|_| ())
 }
 
 /// Tells the receiver a block's number beside its line. Header and text of a

@@ -1,13 +1,13 @@
 //! Writes a block, reads it back, does the same under DKOI, sends a frame over,
-//! judges a number, keeps blocks until they are acknowledged, spreads a text
-//! over a line, replays a recorded line, joins the checks of two parts and
+//! judges a number, keeps blocks until they are acknowledged, changes the method
+//! while one is on the way, spreads a text over a line, replays a recorded line, joins the checks of two parts and
 //! writes a fixed block.
 
 #[allow(dead_code)]
 mod corridor;
 
 use corridor::{Arrival, BlockMethod, Code, Degree, EndSign, FrameMethod, Link, Parity, Part};
-use corridor::{Refusal, Shape, Station, CELL, RECORD};
+use corridor::{CyclicMethod, Receiver, Refusal, Shape, Station, Told, CELL, RECORD};
 
 /// The matrix with even parity, which carries KOI-7 alone.
 const MATRIX: Link = Link {
@@ -40,6 +40,7 @@ fn run() -> Result<(), Refusal> {
     assert_eq!((arrival, awaited), (Arrival::New, 3));
     println!("number 2: {arrival:?}, then {awaited} is awaited");
     sender()?;
+    another_method()?;
     interleaved()?;
     replay()?;
     joined()?;
@@ -130,6 +131,25 @@ fn sender() -> Result<(), Refusal> {
     let third = corridor::submit(link, &mut station, &mut store, b"8A 03")?;
     assert_eq!((first, second, freed, third), (0, 1, 1, 2));
     println!("sender: {first}, {second}, {waits:?}, {freed} freed, {third}");
+    Ok(())
+}
+
+/// A block from before the order is sent under method 4, the next under 3.
+fn another_method() -> Result<(), Refusal> {
+    let (link, mut station, mut store) = ((3, 2), Station::fresh(), [0; 2 * CELL]);
+    let (mut receiver, mut line, mut out) = (Receiver::fresh(link), [0; 20], [0; 5]);
+    corridor::submit(link, &mut station, &mut store, b"7B 12")?;
+    let number = corridor::order(link, &mut station, CyclicMethod::Cyclic)?;
+    corridor::tell_order(&mut receiver, number, CyclicMethod::Cyclic)?;
+    corridor::submit(link, &mut station, &mut store, b"8A 03")?;
+    for (named, text) in [(0, b"7B 12"), (1, b"8A 03")] {
+        let length = corridor::send(link, &station, &store, named, &mut line)?;
+        let told = corridor::tell_block(&mut receiver, named, &line[..length], &mut out)?;
+        assert!(matches!(told, Told::New(block) if block.text_length == 5));
+        assert_eq!(&out, text);
+    }
+    let awaited = receiver.awaited();
+    println!("method 3 from number {number} on, both taken, {awaited} awaited");
     Ok(())
 }
 
