@@ -2,15 +2,20 @@
 //! of the blocks, with lines that are lost, repeated, damaged or late, and
 //! orders of another method in between.
 
-use crate::corridor::{self, codes};
+mod damage;
+mod refused;
+mod typed;
+
+use crate::corridor::codes;
 use crate::judge::{before, differ};
 use crate::peer::number::Arrival;
 use crate::peer::receiver::Receiver;
-use crate::peer::sender::{self, method_of, Record, Sender, CELL};
+use crate::peer::sender::{method_of, Record, Sender, CELL};
 use crate::peer::Refusal;
 use crate::random::Random;
-use crate::senders::{of_record, some_length, some_record, spoiled, to_record};
+use crate::senders::{of_record, some_length, some_record};
 use crate::tally::{Call, Tally};
+use damage::damaged;
 
 /// Steps of one history.
 const STEPS: usize = 300;
@@ -418,142 +423,11 @@ impl History {
             &of_record(&self.sender.record()),
         );
     }
-
-    /// Every call with bad records, n or w: with nothing altered.
-    fn refused(&self, random: &mut Random, tally: &mut Tally) {
-        self.sender_refused(random, tally);
-        self.receiver_refused(random, tally);
-    }
-
-    fn sender_refused(&self, random: &mut Random, tally: &mut Tally) {
-        let (mut n, mut w, mut station) = (self.n, self.w, self.station);
-        let any = random.byte();
-        match random.below(4) {
-            0 => n = any,
-            1 => w = random.of(&[0, 7, 8, 1 << n, any]),
-            _ => station = spoiled(random, station),
-        }
-        let all = self.store.len();
-        let room = random.of(&[all, all, (usize::from(w) * CELL).saturating_sub(1).min(all)]);
-        let record = to_record(&station);
-        let asked = |room| sender::questions(usize::from(n), usize::from(w), &record, room);
-        let input = || format!("n {n} w {w} {station:?} room {room}");
-        // An order lends no store.
-        if let Err(Refusal { number, .. }) = asked(usize::MAX) {
-            let (mut after, mut value) = (station, BEFORE);
-            let answer = codes::order(n, w, &mut after, 3, &mut value);
-            tally.note(Call::Order, answer, 3);
-            same(
-                "order refused",
-                &input,
-                &(answer, value, after),
-                &(number, 0, station),
-            );
-        }
-        if let Err(Refusal {
-            number,
-            value: needed,
-        }) = asked(room)
-        {
-            let (mut out, mut value) = (before(9), BEFORE);
-            let answer = codes::send(
-                (n, w),
-                &station,
-                &self.store[..room],
-                0,
-                &mut out,
-                &mut value,
-            );
-            tally.note(Call::Send, answer, 0);
-            same(
-                "send refused",
-                &input,
-                &(answer, value, out),
-                &(number, needed, before(9)),
-            );
-        }
-    }
-
-    /// Records that no list of calls left, right ones among them.
-    fn receiver_refused(&self, random: &mut Random, tally: &mut Tally) {
-        let mut record = self.receiver;
-        for _ in 0..=random.below(2) {
-            let any = random.byte();
-            match random.below(6) {
-                0 => record.n = any,
-                1 => record.w = random.of(&[0, 1 << (self.n & 7), any]),
-                2 => record.c = any,
-                3 => record.method = random.of(&[0, 3, 4, any]),
-                4 => record.waiting = random.of(&[0, 3, 4, any]),
-                _ => record.number = random.of(&[record.c, any, 1 << (self.n & 7)]),
-            }
-        }
-        let number = random.byte() & random.of(&[0xFF, 0x07, 0x01]);
-        let other = History {
-            receiver: record,
-            peer: to_receiver(&record),
-            on_the_way: Vec::new(),
-            accepted: Vec::new(),
-            store: Vec::new(),
-            sender: Sender::of_record(1, 1, &Record::fresh(), &[]),
-            faithful: false,
-            ..*self
-        };
-        other.answers_alike(number, random, tally);
-    }
-
-    /// Both calls of the receiver on such a record; only a record without an
-    /// order that waits may keep another number behind it.
-    fn answers_alike(mut self, number: u8, random: &mut Random, tally: &mut Tally) {
-        if self.receiver.waiting == 0 {
-            self.receiver.number = 0;
-        }
-        let (receiver, peer) = (self.receiver, self.peer);
-        self.tell_order(number, random.of(&[3, 4]), tally);
-        (self.receiver, self.peer) = (receiver, peer);
-        let text = random.bytes(3);
-        let mut sender = Sender::of_record(1, 1, &Record::fresh(), &[0; CELL]);
-        let line = match sender.submit(&text).and_then(|_| sender.send(0, CELL)) {
-            Ok(line) => line,
-            Err(refusal) => unreachable!("{refusal:?}"),
-        };
-        self.tell_block((number, line), random, tally);
-    }
-}
-
-/// A line cut, lengthened, with a bit changed, or none that was ever sent.
-fn damaged(random: &mut Random, mut line: Vec<u8>) -> Vec<u8> {
-    match random.below(10) {
-        0 => line.truncate(random.below(line.len() + 1)),
-        1 => line.truncate(line.len() - 1 - random.below(3)),
-        2 => {
-            let length = 1 + random.below(4);
-            line.extend(random.bytes(length));
-        }
-        3 => {
-            let length = 2 + random.below(6);
-            line = random.bytes(length);
-        }
-        4 => line = vec![0x10; random.of(&[1, 2, 3, 7])],
-        // Over 4,096 counted, and over 16,384 bytes.
-        5 => line = [&[0x10, 0x02][..], &[0x41; 4_097], &[0x10, 0x03, 0, 0]].concat(),
-        6 if random.once_in(8) => line = vec![0x41; 16_385],
-        // A sign where none may stand.
-        7 => {
-            let place = random.below(line.len());
-            line[place] = random.of(&[0x01, 0x02, 0x10, 0x16]);
-        }
-        _ => {
-            let place = random.below(line.len());
-            line[place] ^= 1 << random.below(8);
-        }
-    }
-    line
 }
 
 /// Histories until so many calls were made.
 pub fn run(tally: &mut Tally, random: &mut Random, calls: u64) {
-    typed();
+    typed::typed();
     let begun = tally.total();
     while tally.total() - begun < calls {
         let mut history = History::begin(random);
@@ -575,59 +449,5 @@ pub fn run(tally: &mut Tally, random: &mut Random, calls: u64) {
             let told = history.told();
             differ("store", &told, "another block", "the stored blocks");
         }
-    }
-}
-
-/// The typed calls: a block under method 4, an order of method 3 told at once,
-/// and a block under it.
-fn typed() {
-    let link = (3, 2);
-    let (mut station, mut store) = (corridor::Station::fresh(), vec![0; 2 * CELL]);
-    let mut receiver = corridor::Receiver::fresh(link);
-    let (mut line, mut out) = ([0; 32], [0; 32]);
-    let mut told = Vec::new();
-    let mut answers = vec![corridor::submit(link, &mut station, &mut store, b"one")];
-    let method = corridor::CyclicMethod::Cyclic;
-    answers.push(corridor::order(link, &mut station, method));
-    answers.push(corridor::order(link, &mut station, method));
-    let noted = corridor::tell_order(&mut receiver, 1, method);
-    answers.push(corridor::submit(link, &mut station, &mut store, b"two"));
-    for named in [1, 0, 0, 1, 2] {
-        let sent = corridor::send(link, &station, &store, named, &mut line);
-        let length = sent.unwrap_or(0);
-        told.push(corridor::tell_block(
-            &mut receiver,
-            named,
-            &line[..length],
-            &mut out,
-        ));
-    }
-    let new = |length| {
-        Ok(corridor::Told::New(corridor::Block {
-            shape: corridor::Shape::ClearText,
-            end_sign: corridor::EndSign::Etx,
-            header_length: 0,
-            text_length: length,
-            counted: length + 1,
-        }))
-    };
-    let refusal = |number, value| corridor::Refusal { number, value };
-    let wanted = vec![
-        Ok(corridor::Told::Lost),
-        new(3),
-        Ok(corridor::Told::Repeat),
-        new(3),
-        Err(refusal(13, 0)),
-    ];
-    let numbers = vec![Ok(0), Ok(1), Err(refusal(67, 0)), Ok(1)];
-    let library = (answers, noted, told, receiver.awaited());
-    let peer = (numbers, Ok(()), wanted, 2);
-    if library != peer {
-        differ(
-            "typed link",
-            "two blocks",
-            &format!("{library:?}"),
-            &format!("{peer:?}"),
-        );
     }
 }
