@@ -48,7 +48,7 @@ const CASES: u64 = 1_000_000;
 const SENDER_CALLS: u64 = 3_000_000;
 
 /// Calls of the two stations of a link.
-const LINK_CALLS: u64 = 2_000_000;
+const LINK_CALLS: u64 = 700_000;
 
 /// Texts that are interleaved, behind the small ones.
 const INTERLEAVED: u64 = 50_000;
