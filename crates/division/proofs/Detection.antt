@@ -89,7 +89,7 @@ remainder_pair p k =
     ∙ remainder-xor p (true ∷ zeros (suc k)) (zeros (suc k) ++ true ∷ []) (simp (length-append, length-replicate) (omega arith))
     ∙ ap (xor_bits (power p (suc k))) (leading p (suc k) (true ∷ []))
 
-length-power : (p : List Bool) (d : ℕ) → length (power p d) ≡ length p
+pub length-power : (p : List Bool) (d : ℕ) → length (power p d) ≡ length p
 unfolding power
 length-power p d = length-remainder p (true ∷ zeros d)
 

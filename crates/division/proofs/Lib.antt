@@ -2,6 +2,13 @@ pub mod Linear
 pub mod Zeros
 pub mod Quotient
 pub mod Detection
+pub mod Substitution
 pub mod Powers
 pub mod Order
 pub mod Generators
+pub mod Sums
+pub mod Distances
+pub mod Distinct
+pub mod Numbers
+pub mod Pairs
+pub mod Totals

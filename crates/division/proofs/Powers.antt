@@ -1,45 +1,22 @@
 -- Powers of x modulo the divisor: computed by halving the exponent and squaring, and how powers that are 1 combine. Assumes nothing.
-use mathlib.Core.Path.{◌≡◌, refl, sym, ap, ◌∙◌}
+use mathlib.Core.Path.{◌≡◌, sym, ap, ◌∙◌}
 use Prim.Native.Nat.{ℕ, zero, suc, ◌+◌, ◌*◌, ◌/◌, ◌%◌, ◌^◌, ◌<◌}
 use native.Mathlib.Nat.{pow-suc, zero-mul, suc-mul}
 use native.Mathlib.Omega.{arith}
 use mathlib.Core.Bool.{Bool, true, false}
-use mathlib.Core.List.{List, [], ◌∷◌, ◌++◌, append_assoc, append-nil}
-use lib.ListN.{length, length-append}
-use Rattle.bits.specs.Strings.{xor_bits, zeros}
-use Rattle.bits.proofs.Strings.{length-zeros, zeros-append, false-xor}
+use mathlib.Core.List.{List, [], ◌∷◌}
+use lib.ListN.{length}
+use Rattle.bits.specs.Strings.{zeros}
+use Rattle.bits.proofs.Strings.{zeros-append}
 use Rattle.division.specs.Division.{step, divide, remainder, power, PowerIsOne}
-use Rattle.division.proofs.Linear.{length-step, length-remainder, remainder-append, remainder-xor}
+use Rattle.division.proofs.Linear.{remainder-append}
 use Rattle.division.proofs.Zeros.{leading}
-use Rattle.division.proofs.Quotient.{remainder_lead}
+use Rattle.division.proofs.Substitution.{spread_by, length-spread_by, spread_by-zeros, spread_remainder}
 
 -- ---- the square of a polynomial has its bits at the even powers
 
-abbrev pub spread : List Bool → List Bool
-spread [] = []
-spread (x ∷ a) = false ∷ x ∷ spread a
-
 abbrev pub square : List Bool → List Bool → List Bool
-square p r = remainder p (spread r)
-
-spread-append : (a b : List Bool) → spread (a ++ b) ≡ spread a ++ spread b
-spread-append [] b = refl
-spread-append (x ∷ a) b = rw (spread-append a b)
-
-spread-xor : (a b : List Bool) → spread (xor_bits a b) ≡ xor_bits (spread a) (spread b)
-spread-xor [] b = refl
-spread-xor (x ∷ a) [] = refl
-spread-xor (x ∷ a) (y ∷ b) = rw (spread-xor a b, false-xor false)
-
-length-spread : (a : List Bool) → length (spread a) ≡ length a + length a
-length-spread [] = refl
-length-spread (x ∷ a) = omega (arith, length-spread a)
-
-spread-zeros : (n : ℕ) → spread (zeros n) ≡ zeros (n + n)
-spread-zeros zero = refl
-spread-zeros (suc n) =
-    let e : suc n + suc n ≡ suc (suc (n + n)) = omega arith in
-    rw (e, spread-zeros n)
+square p r = remainder p (spread_by 1 r)
 
 -- ---- x to the power n, of k binary digits, by squaring
 
@@ -61,47 +38,16 @@ power-times-x p n zero h = sym (power-add p n 0)
 power-times-x p n (suc zero) h = sym (power-add p n 1)
 power-times-x p n (suc (suc b)) h = absurd (omega arith)
 
-empty : (a b : List Bool) → length a ≡ 0 → length b ≡ 0 → a ≡ b
-empty [] [] h k = refl
-empty [] (y ∷ b) h k = absurd (omega arith)
-empty (x ∷ a) b h k = absurd (omega arith)
-
 -- the square of the divisor, x^2w plus the square of its low part, leaves nothing: computed, once for a divisor
 abbrev pub Squares : List Bool → Type 0
 Squares p = square p p ≡ power p (length p + length p)
 
 module _ (p : List Bool) (sq : Squares p) where
-  square-step : (r : List Bool) (b : Bool) → length r ≡ length p → square p (step p r b) ≡ remainder p (spread (r ++ b ∷ []))
-  square-step [] b h = empty _ _ (length-remainder p _ ∙ sym h) (length-remainder p _ ∙ sym h)
-  square-step (true ∷ r) b h =
-      let w : length (r ++ b ∷ []) ≡ length p = simp length-append (omega arith) in
-      let w2 : length (spread (r ++ b ∷ [])) ≡ length p + length p = omega (arith, length-spread (r ++ b ∷ [])) in
-      ap (remainder p) (spread-xor p (r ++ b ∷ []))
-      ∙ remainder-xor p (spread p) (spread (r ++ b ∷ [])) (omega (arith, length-spread p))
-      ∙ ap (λ z. xor_bits z (remainder p (spread (r ++ b ∷ [])))) (sq ∙ ap (power p) (sym w2))
-      ∙ sym (remainder_lead p (spread (r ++ b ∷ []))) ∙ sym (leading p 1 (true ∷ spread (r ++ b ∷ [])))
-  square-step (false ∷ r) b h = sym (leading p 2 (spread (r ++ b ∷ [])))
-
-  square-divide : (r a : List Bool) → length r ≡ length p → square p (divide p r a) ≡ remainder p (spread (r ++ a))
-  unfolding divide
-  square-divide r [] h = ap (λ z. square p z) (sym (append-nil r))
-  square-divide r (b ∷ a) h =
-      square-divide (step p r b) a (length-step p r b h)
-      ∙ ap (remainder p) (spread-append (step p r b) a) ∙ remainder-append p (spread (step p r b)) (spread a)
-      ∙ ap (λ z. divide p z (spread a)) (square-step r b h)
-      ∙ sym (remainder-append p (spread (r ++ b ∷ [])) (spread a)) ∙ ap (remainder p) (sym (spread-append (r ++ b ∷ []) a))
-      ∙ ap (λ z. remainder p (spread z)) (append_assoc r (b ∷ []) a)
-
-  square-remainder : (a : List Bool) → square p (remainder p a) ≡ remainder p (spread a)
-  unfolding remainder
-  square-remainder a =
-      square-divide (zeros (length p)) a (length-zeros (length p))
-      ∙ ap (remainder p) (spread-append (zeros (length p)) a ∙ ap (λ z. z ++ spread a) (spread-zeros (length p)))
-      ∙ leading p (length p + length p) (spread a)
-
   square-power : (n : ℕ) → square p (power p n) ≡ power p (n + n)
   unfolding power
-  square-power n = square-remainder (true ∷ zeros n) ∙ leading p 1 _ ∙ ap (λ z. remainder p (true ∷ z)) (spread-zeros n)
+  square-power n =
+      spread_remainder 1 p p (ap (power p) {x = length (spread_by 1 p)} {y = length p + length p} (omega (arith, length-spread_by 1 p)) ∙ sym sq) (true ∷ zeros n)
+      ∙ leading p 1 _ ∙ ap (λ z. remainder p (true ∷ z)) (spread_by-zeros 1 n ∙ ap zeros {x = 2 * n} {y = n + n} (omega arith))
 
   pub fast_power_lem : (k n : ℕ) → n < 2 ^ k → fast_power p k n ≡ power p n
   unfolding power

@@ -1,8 +1,8 @@
 -- What is proved of division: each statement once, under the name that its proof carries. Assumes nothing.
-use Rattle.std.specs.Prelude.{◌≡◌, ◌↔◌, ℕ, ◌-◌, ◌%◌, ◌≤◌, ◌<◌, Bool, true, List, [], ◌∷◌, ◌++◌, length}
+use Rattle.std.specs.Prelude.{◌≡◌, ◌↔◌, ℕ, suc, ◌-◌, ◌%◌, ◌≤◌, ◌<◌, Bool, true, List, [], ◌∷◌, ◌++◌, length}
 use Rattle.bits.specs.Strings.{xor_bits, zeros, ones, weight, parity}
 use Rattle.bits.specs.Differences.{differing, Burst}
-use Rattle.division.specs.Division.{remainder, Divides, PowerIsOne, Divided, constant_term}
+use Rattle.division.specs.Division.{remainder, Divides, power, PowerIsOne, Divided, constant_term}
 use Rattle.division.specs.Generators.{ieee32, ccitt16, receiver16, receiver32, printed32}
 
 -- ---- the remainder
@@ -68,6 +68,36 @@ OrderAbove p limit = (d : ℕ) → 0 < d → d ≤ limit → PowerIsOne p d → 
 abbrev pub DetectsTwo : Type 0
 DetectsTwo =
     (p a b : List Bool) → constant_term p ≡ true → 0 < length p → OrderAbove p (length a - 1) → Undetected p a b → weight (xor_bits a b) ≤ 2 → a ≡ b
+
+-- ---- the least distance of two strings that leave one remainder, by their length
+
+-- two unequal ones of at most n bits differ in at least k bits
+abbrev pub AtLeastWithin : ℕ → ℕ → List Bool → Type 0
+AtLeastWithin k n p = (a b : List Bool) → Undetected p a b → length a ≤ n → (a ≡ b → ⊥) → k ≤ weight (xor_bits a b)
+
+-- the divisor divides no string of at most n bits that has k bits set
+abbrev pub NoMultiple : ℕ → ℕ → List Bool → Type 0
+NoMultiple k n p = (s : List Bool) → length s ≤ n → Divides p s → weight s ≡ k → ⊥
+
+-- x^j + x^i + 1 leaves a remainder for all 0 < i < j ≤ limit
+abbrev pub NoTrinomial : List Bool → ℕ → Type 0
+NoTrinomial p limit = (i j : ℕ) → 0 < i → i < j → j ≤ limit → xor_bits (power p j) (power p i) ≡ power p 0 → ⊥
+
+-- three bits where x^d is 1 at no distance within the string
+abbrev pub AtLeastThree : Type 0
+AtLeastThree = (p : List Bool) (n : ℕ) → constant_term p ≡ true → 0 < length p → OrderAbove p (n - 1) → AtLeastWithin 3 n p
+
+-- one bit more where no multiple has just k bits
+abbrev pub AtLeastOneMore : Type 0
+AtLeastOneMore = (p : List Bool) (k n : ℕ) → AtLeastWithin k n p → NoMultiple k n p → AtLeastWithin (suc k) n p
+
+-- none has an odd number of bits where x + 1 divides the divisor
+abbrev pub NoOddMultiple : Type 0
+NoOddMultiple = (p : List Bool) (k n : ℕ) → EvenTerms p → k % 2 ≡ 1 → NoMultiple k n p
+
+-- none has three where no trinomial is a multiple
+abbrev pub NoMultipleOfThree : Type 0
+NoMultipleOfThree = (p : List Bool) (n : ℕ) → constant_term p ≡ true → NoTrinomial p (n - 1) → NoMultiple 3 n p
 
 -- ---- the generators of the standard
 

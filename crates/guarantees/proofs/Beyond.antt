@@ -29,7 +29,7 @@ use Rattle.guarantees.proofs.Third.{bridge, check_16}
 distance_16 : (m : AnyMethod) → Has16Bits m → AtLeastBelow 4 32768 (lines_of m)
 distance_16 m h =
     let c = check_16 m h in
-    at_least_four c.parameters 16 c.wide (lines_of m) (bridge m) c.pairs c.terms order16 (omega arith) c.order
+    at_least_four c.parameters 16 c.wide (lines_of m) (bridge m) c.pairs (omega arith) c.terms order16 c.order
 
 distance-blocks : (table : CodeTable) (m : Method) (p : Parity) (most : ℕ) → check_length m ≡ 2 → 8 * (most + 2) < 32768 → AtLeastBelow 4 32768 (blocks table m p)
     → BlocksAtLeast 4 most table m p

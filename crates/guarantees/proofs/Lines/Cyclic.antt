@@ -3,16 +3,15 @@ use mathlib.Core.Path.{◌≡◌, refl, sym, ap, ◌∙◌}
 use mathlib.Core.Logic.{◌↔◌}
 use Prim.Native.Nat.{ℕ, suc, ◌+◌, ◌-◌, ◌*◌, ◌%◌, ◌≤◌, ◌<◌}
 use native.Mathlib.Omega.{arith}
-use mathlib.Core.Bool.{Bool, true, false}
+use mathlib.Core.Bool.{Bool}
 use mathlib.Core.List.{List, [], ◌∷◌, ◌++◌}
-use lib.Dec.{leb}
 use lib.ListN.{length}
-use borrow.Author.Tests.{leb-true, leb-false}
 use Rattle.bits.proofs.Differences.{length-differing, two-differing}
 use Rattle.bits.proofs.Strings.{length-xor}
 use Rattle.division.specs.Division.{remainder}
-use Rattle.division.specs.Laws.{Undetected, EvenTerms, OrderIs, OrderAbove}
-use Rattle.division.proofs.Detection.{burst, even, two-bits, three_bits}
+use Rattle.division.specs.Laws.{Undetected, EvenTerms, OrderIs, OrderAbove, AtLeastWithin}
+use Rattle.division.proofs.Detection.{burst, even, two-bits}
+use Rattle.division.proofs.Distances as distances
 use Rattle.cyclic.specs.Check.{Parameters, check_bits}
 use Rattle.cyclic.specs.Laws.{OfWidth}
 use Rattle.cyclic.proofs.Checks.{one_remainder}
@@ -84,39 +83,27 @@ module _ (m : Parameters) (w : ℕ) (wide : OfWidth w m) (L : Lines) (bridge : B
         λ q. c.1 (r.1 (o.1 (omega (arith, t.apart)))),
       )
 
+  -- the least distance of strings is that of lines
+  pub at_least : (k n : ℕ) → AtLeastWithin k n m.generator → AtLeastBelow k (suc n) L
+  at_least k n least A B t few =
+      let a = L.checked_bits A in
+      let b = L.checked_bits B in
+      omega (
+        arith,
+        (differ_where_checked L bridge A B t.same_framing).1,
+        length-differing a b,
+        least a b (undetected A B t) (omega arith) (λ e. t.unequal (equal_where_checked L bridge A B t.same_framing e)),
+      )
+
   pub at_least_three : 0 < w → OrderAbove m.generator (8 * m.limit + w - 1) → AtLeast 3 L
-  at_least_three pos far A B t = go (leb 3 (distance L A B)) refl
-    where
-      a : List Bool
-      a = L.checked_bits A
-
-      few : distance L A B ≤ 2 → a ≡ L.checked_bits B
-      few h =
-          three_bits m.generator a (L.checked_bits B) wide.generator.constant (omega (arith, wide.generator.width))
-          (λ d p k. far d p (omega (arith, (pairs A B t.same_framing).within))) (undetected A B t)
-          (omega (arith, (differ_where_checked L bridge A B t.same_framing).1, length-differing a (L.checked_bits B)))
-
-      go : (b : Bool) → leb 3 (distance L A B) ≡ b → 3 ≤ distance L A B
-      go true e = leb-true 3 (distance L A B) e
-      go false e =
-          absurd (t.unequal (equal_where_checked L bridge A B t.same_framing (few (omega (arith, leb-false 3 (distance L A B) e)))))
+  at_least_three pos far A B t =
+      let n = 8 * m.limit + w in
+      at_least 3 n (distances.at_least_three m.generator n wide.generator.constant (omega (arith, wide.generator.width)) far) A B t
+      (omega (arith, (pairs A B t.same_framing).within))
 
   -- never odd, and two bits n apart do not fit into n checked bits
-  pub at_least_four : EvenTerms m.generator → (n : ℕ) → 0 < n → OrderIs m.generator n (8 * m.limit + w - 1) → AtLeastBelow 4 (suc n) L
-  at_least_four terms n pos order A B t few = go (differing_checked L A B) refl
-    where
-      counts : {ns : List ℕ} → differing_checked L A B ≡ ns → distance L A B ≡ length ns
-      counts e = (differ_where_checked L bridge A B t.same_framing).1 ∙ ap length e
-
-      go : (ns : List ℕ) → differing_checked L A B ≡ ns → 4 ≤ distance L A B
-      go [] e = absurd (no_burst A B t 0 (omega arith) (rw e tt))
-      go (i ∷ []) e = absurd (never_odd terms A B t (ap (λ x. x % 2) (counts e)))
-      go (i ∷ j ∷ []) e =
-          let a = L.checked_bits A in
-          let b = L.checked_bits B in
-          let d = two-differing a b i j e in
-          let q = (accepted_where_apart n pos order A B t.accepted.0 t.same_framing i j e).0 t.accepted.1 in
-          let one = length-checked L bridge A B t.same_framing in
-          absurd (omega (arith, d.apart, d.inside, length-xor a b one, one))
-      go (i ∷ j ∷ k ∷ []) e = absurd (never_odd terms A B t (ap (λ x. x % 2) (counts e)))
-      go (i ∷ j ∷ k ∷ l ∷ ns) e = omega (arith, counts e)
+  pub at_least_four : 0 < w → EvenTerms m.generator → (n : ℕ) → OrderIs m.generator n (8 * m.limit + w - 1) → AtLeastBelow 4 (suc n) L
+  at_least_four pos terms n order A B t few =
+      let k = length (L.checked_bits A) in
+      let far : OrderAbove m.generator (k - 1) = λ d p q e. absurd (omega (arith, (order d p (omega (arith, (pairs A B t.same_framing).within))).0 e)) in
+      at_least 4 k (distances.at_least_four m.generator k wide.generator.constant (omega (arith, wide.generator.width)) terms far) A B t (omega arith)
