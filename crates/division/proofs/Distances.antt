@@ -9,7 +9,7 @@ use mathlib.Core.Bool.{Bool, true, cond}
 use mathlib.Core.List.{List, [], ◌∷◌}
 use lib.ListN.{length}
 use Rattle.bits.specs.Strings.{xor_bits, zeros, weight, parity}
-use Rattle.bits.proofs.Strings.{length-zeros, length-xor, xor_bits-zeros, xor_bits_comm, xor_bits_assoc, equal_of_xor, parity-zeros, weight-parity}
+use Rattle.bits.proofs.Strings.{length-zeros, length-xor, xor_bits-zeros, xor_bits_comm, xor_bits_assoc, equal_of_xor, weight-zero, parity-zeros, weight-parity}
 use Rattle.division.specs.Division.{divide, power, constant_term}
 use Rattle.division.specs.Laws.{EvenTerms, OrderAbove, AtLeastWithin, AtLeastThree, AtLeastOneMore, NoOddMultiple, NoMultipleOfThree}
 use Rattle.division.proofs.Linear.{divide_linear}
@@ -17,6 +17,18 @@ use Rattle.division.proofs.Zeros.{divide_injective}
 use Rattle.division.proofs.Powers.{power-add}
 use Rattle.division.proofs.Detection.{difference, length-power, parity-remainder, three_bits}
 use Rattle.division.proofs.Sums.{degrees, sum, remainder-sum, length-degrees, Falling, falling}
+
+pub at_least_one : (p : List Bool) (n : ℕ) → AtLeastWithin 1 n p
+at_least_one p n a b u short unequal =
+    elim (dec_le 1 (weight (xor_bits a b))) [
+      | yes h ↦ h
+      | no h ↦
+          let few = lt_of_not-le h in
+          absurd
+          (unequal
+          (equal_of_xor a b u.one_length
+          (weight-zero (xor_bits a b) (omega arith) ∙ ap zeros (length-xor a b u.one_length))))
+    ]
 
 pub at_least_three : AtLeastThree
 at_least_three p n l w far a b u short unequal =

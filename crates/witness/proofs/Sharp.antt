@@ -50,7 +50,7 @@ module _ (L : Lines) (framing : AcceptedHasFraming L) (A B : L.Line) where
       let none : distance L A A ≡ 0 = length-differing a a ∙ ap weight (xor_bits_self a) ∙ weight-zeros (length a) in
       omega (arith, ap (distance L A) e)
 
-  two_accepted : L.IsLine A × L.IsLine B → L.size A ≡ L.size B → L.framing_of A ≡ L.framing_of B → L.Accepted A × L.Accepted B
+  pub two_accepted : L.IsLine A × L.IsLine B → L.size A ≡ L.size B → L.framing_of A ≡ L.framing_of B → L.Accepted A × L.Accepted B
       → {n : ℕ} → distance L A B ≡ suc n → TwoAccepted L A B
   two_accepted lines size one accepted d =
       record {

@@ -74,13 +74,13 @@ module _ (s : List Bool) where
   closing : drop (length (enclose s) - 8) (enclose s) ≡ flag
   closing = ap (drop (length (enclose s) - 8)) front ∙ drop_at (flag ++ stuff 0 s) flag (length (enclose s) - 8) length_front
 
-  between_enclosed : between (enclose s) ≡ stuff 0 s
+  pub between_enclosed : between (enclose s) ≡ stuff 0 s
   between_enclosed =
       ap (λ x. drop 8 (take (length (enclose s) - 8) x)) front
       ∙ ap (drop 8) (take_at (flag ++ stuff 0 s) flag (length (enclose s) - 8) length_front)
       ∙ drop_at flag (stuff 0 s) 8 length-flag
 
-  framed_enclosed : (m : Parameters) → 1 + width m ≤ length s → length s ≤ limit_bits m + width m → framed m (enclose s) ≡ found s
+  pub framed_enclosed : (m : Parameters) → 1 + width m ≤ length s → length s ≤ limit_bits m + width m → framed m (enclose s) ≡ found s
   unfolding framed
   framed_enclosed m k l =
       let u : unstuff 0 8 (between (enclose s)) ≡ clean s = ap (unstuff 0 8) between_enclosed ∙ unstuff-stuff 0 8 s (omega arith) in

@@ -1,10 +1,10 @@
 -- What a cyclic check detects on lines: the laws of division, carried over by the checked bits. Assumes nothing.
-use mathlib.Core.Path.{◌≡◌, refl, sym, ap, ◌∙◌}
+use mathlib.Core.Path.{◌≡◌, sym, ap, ◌∙◌}
 use mathlib.Core.Logic.{◌↔◌}
 use Prim.Native.Nat.{ℕ, suc, ◌+◌, ◌-◌, ◌*◌, ◌%◌, ◌≤◌, ◌<◌}
 use native.Mathlib.Omega.{arith}
 use mathlib.Core.Bool.{Bool}
-use mathlib.Core.List.{List, [], ◌∷◌, ◌++◌}
+use mathlib.Core.List.{List, ◌++◌}
 use lib.ListN.{length}
 use Rattle.bits.proofs.Differences.{length-differing, two-differing}
 use Rattle.bits.proofs.Strings.{length-xor}
@@ -15,7 +15,7 @@ use Rattle.division.proofs.Distances as distances
 use Rattle.cyclic.specs.Check.{Parameters, check_bits}
 use Rattle.cyclic.specs.Laws.{OfWidth}
 use Rattle.cyclic.proofs.Checks.{one_remainder}
-use Rattle.guarantees.specs.Lines.{Lines, SameFraming, TwoAccepted, distance, differing_checked, AtLeast, NoBurst, NeverOdd, AcceptedWhereApart}
+use Rattle.guarantees.specs.Lines.{Lines, SameFraming, TwoAccepted, AtLeast, NoBurst, NeverOdd, AcceptedWhereApart}
 use Rattle.guarantees.specs.Beyond.{AtLeastBelow}
 use Rattle.guarantees.proofs.Lines.Masks.{Bridge, differ_where_checked, equal_where_checked, length-checked}
 
@@ -38,7 +38,7 @@ CyclicPairs m w L = (A B : L.Line) → SameFraming L A B → CyclicPair m w L A 
 
 module _ (m : Parameters) (w : ℕ) (wide : OfWidth w m) (L : Lines) (bridge : Bridge L) (pairs : CyclicPairs m w L) where
   module _ (A B : L.Line) (acc : L.Accepted A) (s : SameFraming L A B) where
-    accepted_remainder : L.Accepted B ↔ (remainder m.generator (L.checked_bits A) ≡ remainder m.generator (L.checked_bits B))
+    pub accepted_remainder : L.Accepted B ↔ (remainder m.generator (L.checked_bits A) ≡ remainder m.generator (L.checked_bits B))
     accepted_remainder =
         let c = pairs A B s in
         let p = m.generator in

@@ -1,0 +1,4 @@
+pub mod ZeroFrames
+pub mod TwoBits
+pub mod ThreeBits
+pub mod Distances
