@@ -9,14 +9,14 @@ use mathlib.Core.Bool.{Bool, true, cond}
 use mathlib.Core.List.{List, [], ◌∷◌}
 use lib.ListN.{length}
 use Rattle.bits.specs.Strings.{xor_bits, zeros, weight, parity}
-use Rattle.bits.proofs.Strings.{length-zeros, length-xor, xor_bits-zeros, xor_bits_comm, xor_bits_assoc, equal_of_xor, weight-zero, parity-zeros, weight-parity}
+use Rattle.bits.proofs.Strings.{length-zeros, length-xor, xor_bits-zeros, equal_of_xor, weight-zero, parity-zeros, weight-parity}
 use Rattle.division.specs.Division.{divide, power, constant_term}
-use Rattle.division.specs.Laws.{EvenTerms, OrderAbove, AtLeastWithin, AtLeastThree, AtLeastOneMore, NoOddMultiple, NoMultipleOfThree}
+use Rattle.division.specs.Laws.{EvenTerms, OrderAbove, AtLeastWithin, NoMultiple, AtLeastThree, AtLeastOneMore, NoOddMultiple, NoMultipleOfThree}
 use Rattle.division.proofs.Linear.{divide_linear}
 use Rattle.division.proofs.Zeros.{divide_injective}
 use Rattle.division.proofs.Powers.{power-add}
 use Rattle.division.proofs.Detection.{difference, length-power, parity-remainder, three_bits}
-use Rattle.division.proofs.Sums.{degrees, sum, remainder-sum, length-degrees, Falling, falling}
+use Rattle.division.proofs.Sums.{degrees, length-degrees, Falling, falling, no_remainder, two_and_rest, sum-one}
 
 pub at_least_one : (p : List Bool) (n : ℕ) → AtLeastWithin 1 n p
 at_least_one p n a b u short unequal =
@@ -56,6 +56,11 @@ no_odd_multiple p k n terms odd s short d w =
 pub at_least_four : (p : List Bool) (n : ℕ) → constant_term p ≡ true → 0 < length p → EvenTerms p → OrderAbove p (n - 1) → AtLeastWithin 4 n p
 at_least_four p n l w terms far = at_least_one_more p 3 n (at_least_three p n l w far) (no_odd_multiple p 3 n terms refl)
 
+-- and six where no multiple has four
+pub at_least_six : (p : List Bool) (n : ℕ) → constant_term p ≡ true → 0 < length p → EvenTerms p → OrderAbove p (n - 1) → NoMultiple 4 n p → AtLeastWithin 6 n p
+at_least_six p n l w terms far four =
+    at_least_one_more p 5 n (at_least_one_more p 4 n (at_least_four p n l w terms far) four) (no_odd_multiple p 5 n terms refl)
+
 -- ---- three bits
 
 -- two powers whose sum is a third, brought down by it
@@ -73,17 +78,6 @@ module _ (p : List Bool) (l : constant_term p ≡ true) where
       divide_injective p (xor_bits a b) (power p 0) k l (length-xor a b (la ∙ sym lb) ∙ lb) (length-power p 0)
       (ap (divide p (xor_bits a b)) (sym (xor_bits-zeros k z (length-zeros k))) ∙ divide_linear p a b z z la lb refl ∙ ap₂ xor_bits ea eb ∙ e ∙ sym ec)
 
--- of three powers whose sum is 0, two have the sum of the third
-sum_of_three : (p : List Bool) (i j k : ℕ) → sum p (i ∷ j ∷ k ∷ []) ≡ zeros (length p) → xor_bits (power p i) (power p j) ≡ power p k
-sum_of_three p i j k s =
-    let x = power p i in
-    let y = power p j in
-    let z = power p k in
-    let lz : xor_bits z (zeros (length p)) ≡ z = xor_bits_comm z (zeros (length p)) ∙ xor_bits-zeros (length p) z (length-power p k) in
-    let lxy : length (xor_bits x y) ≡ length z = length-xor x y (length-power p i ∙ sym (length-power p j)) ∙ length-power p j ∙ sym (length-power p k) in
-    equal_of_xor (xor_bits x y) z lxy
-    (xor_bits_assoc x y z ∙ ap (λ q. xor_bits x (xor_bits y q)) (sym lz) ∙ s ∙ ap zeros (sym (length-power p k)))
-
 pub no_multiple_of_three : NoMultipleOfThree
 no_multiple_of_three p n l none s short d w = go (degrees s) refl (length-degrees s ∙ w)
   where
@@ -93,6 +87,6 @@ no_multiple_of_three p n l none s short d w = go (degrees s) refl (length-degree
     go (i ∷ j ∷ []) e m = absurd (omega (arith, ap length e))
     go (i ∷ j ∷ k ∷ []) e m =
         let f : Falling (length s) (i ∷ j ∷ k ∷ []) = rw e at (falling s) in
-        let t = sum_of_three p i j k (ap (sum p) (sym e) ∙ sym (remainder-sum p s) ∙ d) in
+        let t : xor_bits (power p i) (power p j) ≡ power p k = two_and_rest p i j (k ∷ []) (no_remainder p s d e) ∙ sum-one p k in
         none (j - k) (i - k) (omega arith) (omega arith) (omega (arith, short)) (brought_down p l j i k (omega arith) (omega arith) t)
     go (i ∷ j ∷ k ∷ m ∷ ds) e q = absurd (omega (arith, ap length e))

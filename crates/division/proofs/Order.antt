@@ -37,7 +37,7 @@ all_at f (suc n) i t h =
 abbrev pub fermat : ℕ → Bool
 fermat q = all (λ r. eqb (suc r ^ (q - 2) * suc r % q) 1) (q - 1)
 
-inverse : (q d : ℕ) → 0 < q → T (fermat q) → (d % q ≡ 0 → ⊥) → (u : ℕ) × (K : ℕ) × (u * d ≡ K * q + 1)
+pub inverse : (q d : ℕ) → 0 < q → T (fermat q) → (d % q ≡ 0 → ⊥) → (u : ℕ) × (K : ℕ) × (u * d ≡ K * q + 1)
 inverse q d h t f = go (d % q) refl
   where
     go : (r : ℕ) → d % q ≡ r → (u : ℕ) × (K : ℕ) × (u * d ≡ K * q + 1)

@@ -1,15 +1,22 @@
 -- The sums of two registers of a run, and a test that no two pairs have one sum. Assumes nothing.
-use mathlib.Core.Path.{◌≡◌, refl, ap}
+use mathlib.Core.Path.{◌≡◌, refl, sym, ap, ap₂, ◌∙◌}
 use mathlib.Core.Logic.{inl, inr}
-use Prim.Native.Nat.{ℕ, zero, suc, ◌+◌, ◌≤◌}
+use Prim.Native.Nat.{ℕ, zero, suc, ◌+◌, ◌%◌, ◌^◌, ◌≤◌}
 use native.Mathlib.Nat.{eq-or-lt_of_le, le_of_suc-le-suc}
 use native.Mathlib.Omega.{arith}
-use mathlib.Core.Bool.{cond}
+use mathlib.Core.Bool.{Bool, cond}
 use mathlib.Core.List.{List, [], ◌∷◌, map}
+use lib.Bits.{bit_xor}
+use lib.ListN.{length}
 use borrow.Author.Tests.{eq-eqb}
+use Rattle.bits.specs.Strings.{xor_bits}
+use Rattle.bits.specs.Bytes.{value}
+use Rattle.bits.proofs.Bytes.{low_bits-xor, value-low_bits}
+use Rattle.division.specs.Division.{power}
+use Rattle.division.specs.Laws.{NoMultiple}
 use Rattle.division.proofs.Distinct.{count, Once}
-use Rattle.division.proofs.Sums.{Falling}
-use Rattle.division.proofs.Numbers.{shifted}
+use Rattle.division.proofs.Sums.{Falling, four_terms, no_remainder, two_and_rest, sum-one}
+use Rattle.division.proofs.Numbers.{bits_at, shifted, register_power}
 
 -- ---- the sums of all pairs of a list
 
@@ -71,3 +78,26 @@ module _ (v : ℕ) (es : List ℕ) (n : ℕ) where
   falling_within (suc k) (d ∷ ds) f =
       elim (eq-or-lt_of_le (le_of_suc-le-suc f.0))
       [ inl e ↦ rw e (keep (falling_within k ds (rw e at f.1))) | inr l ↦ skip (falling_within k (d ∷ ds) (l, f.1)) ]
+
+-- ---- no multiple has four terms where no two pairs of the powers below x^k have one sum
+
+-- the sum of two registers of v + 1 bits
+abbrev pub sum_of : ℕ → ℕ → ℕ → ℕ
+sum_of v m n = bit_xor m n % 2 ^ suc v
+
+module _ (v : ℕ) (es : List ℕ) (p : List Bool) (bits : bits_at (suc v) es ≡ p) (width : length p ≡ suc v) where
+  sum-value : (i j : ℕ) → sum_of v (shifted v es i (2 ^ v)) (shifted v es j (2 ^ v)) ≡ value (xor_bits (power p i) (power p j))
+  sum-value i j =
+      let m = shifted v es i (2 ^ v) in
+      let n = shifted v es j (2 ^ v) in
+      sym (value-low_bits (suc v) (bit_xor m n))
+      ∙ ap value (low_bits-xor (suc v) m n ∙ ap₂ xor_bits (register_power v es p bits width i) (register_power v es p bits width j))
+
+  pub no_multiple_of_four : (k : ℕ) → Once (pair_sums (sum_of v) (registers v es (2 ^ v) k) []) → NoMultiple 4 k p
+  no_multiple_of_four k once s short d w =
+      let f = four_terms s w in
+      let e : xor_bits (power p f.a) (power p f.b) ≡ xor_bits (power p f.c) (power p f.d) =
+      two_and_rest p f.a f.b (f.c ∷ f.d ∷ []) (no_remainder p s d f.powers) ∙ ap (xor_bits (power p f.c)) (sum-one p f.d) in
+      pairs_apart (sum_of v) once
+      (falling_within v es (2 ^ v) k (f.a ∷ f.b ∷ f.c ∷ f.d ∷ []) (omega (arith, f.order.0), f.order.1))
+      (sum-value f.c f.d ∙ ap value (sym e) ∙ sym (sum-value f.a f.b))

@@ -7,7 +7,7 @@ use mathlib.Core.List.{List, [], ◌∷◌, ◌++◌, map}
 use lib.Dec.{T, ltb, ltb→lt}
 use lib.ListN.{length}
 use Rattle.bits.specs.Strings.{xor_bits, zeros, weight, same}
-use Rattle.bits.proofs.Strings.{length-zeros, length-xor, xor_bits-zeros, same_sound}
+use Rattle.bits.proofs.Strings.{length-zeros, length-xor, xor_bits-zeros, xor_bits_comm, xor_bits_assoc, equal_of_xor, same_sound}
 use Rattle.bits.proofs.Tests.{both_true}
 use Rattle.division.specs.Division.{divide, remainder, Divides, power}
 use Rattle.division.proofs.Linear.{divide_linear}
@@ -55,6 +55,43 @@ pub falling : (a : List Bool) → Falling (length a) (degrees a)
 falling [] = tt
 falling (true ∷ a) = (omega arith, falling a)
 falling (false ∷ a) = falling_more (length a) (suc (length a)) (degrees a) (omega arith) (falling a)
+
+-- the powers of a string with four bits set
+pub record FourTerms (s : List Bool) : Type 0 where
+  pub a : ℕ
+  pub b : ℕ
+  pub c : ℕ
+  pub d : ℕ
+  pub powers : degrees s ≡ a ∷ b ∷ c ∷ d ∷ []
+  pub order : Falling (length s) (a ∷ b ∷ c ∷ d ∷ [])
+
+pub four_terms : (s : List Bool) → weight s ≡ 4 → FourTerms s
+four_terms s w = go (degrees s) refl (length-degrees s ∙ w)
+  where
+    go : (ds : List ℕ) → degrees s ≡ ds → length (degrees s) ≡ 4 → FourTerms s
+    go [] e l = absurd (omega (arith, ap length e))
+    go (a ∷ []) e l = absurd (omega (arith, ap length e))
+    go (a ∷ b ∷ []) e l = absurd (omega (arith, ap length e))
+    go (a ∷ b ∷ c ∷ []) e l = absurd (omega (arith, ap length e))
+    go (a ∷ b ∷ c ∷ d ∷ []) e l = record { a = a; b = b; c = c; d = d; powers = e; order = rw e at (falling s) }
+    go (a ∷ b ∷ c ∷ d ∷ f ∷ ds) e l = absurd (omega (arith, ap length e))
+
+-- ---- sums that are 0
+
+-- the powers of a multiple
+pub no_remainder : (p a : List Bool) {ds : List ℕ} → Divides p a → degrees a ≡ ds → sum p ds ≡ zeros (length p)
+no_remainder p a d e = ap (sum p) (sym e) ∙ sym (remainder-sum p a) ∙ d
+
+-- two powers have the sum of the others
+pub two_and_rest : (p : List Bool) (a b : ℕ) (ds : List ℕ) → sum p (a ∷ b ∷ ds) ≡ zeros (length p) → xor_bits (power p a) (power p b) ≡ sum p ds
+two_and_rest p a b ds e =
+    let x = power p a in
+    let y = power p b in
+    let l : length (xor_bits x y) ≡ length p = length-xor x y (length-power p a ∙ sym (length-power p b)) ∙ length-power p b in
+    equal_of_xor (xor_bits x y) (sum p ds) (l ∙ sym (length-sum p ds)) (xor_bits_assoc x y (sum p ds) ∙ e ∙ ap zeros (sym (length-sum p ds)))
+
+pub sum-one : (p : List Bool) (d : ℕ) → sum p (d ∷ []) ≡ power p d
+sum-one p d = xor_bits_comm (power p d) (zeros (length p)) ∙ xor_bits-zeros (length p) (power p d) (length-power p d)
 
 -- ---- sums of powers, computed
 

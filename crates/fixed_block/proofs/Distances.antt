@@ -42,7 +42,7 @@ module _ (k : ℕ) (m : Parameters) (o : OfWidth (8 * k) m) (A B : List ℕ) (n 
         },
       )
 
-  undetected : Accepted m B → Undetected m.generator (bits_of A) (bits_of B)
+  pub undetected : Accepted m B → Undetected m.generator (bits_of A) (bits_of B)
   undetected b = record { one_length = one_length A B n; one_remainder = accepted_remainder.0 b }
 
 pub never_odd : NeverOdd
