@@ -17,8 +17,7 @@ use Rattle.guarantees.proofs.Frames.Bridge.{frame_bridge}
 use Rattle.guarantees.proofs.Frames.Cyclic.{cyclic_frames}
 use Rattle.guarantees.proofs.Third.{bridge, check_16}
 use Rattle.distances.specs.Distances.{DistancesByLength}
-use Rattle.distances.proofs.TwoBits.{two_bits}
-use Rattle.distances.proofs.ThreeBits.{three_bits}
+use Rattle.distances.proofs.FramePairs.{two_bits, three_bits, four_bits}
 
 order_6 : OrderAbove method6.generator 91638
 unfolding method6
@@ -52,7 +51,8 @@ pub distances_by_length : DistancesByLength
 distances_by_length =
     record {
       distance_32 = distance_32;
-      met_32 = three_bits;
+      four_32 = four_bits;
+      three_32 = three_bits;
       any_length_16 = any_length_16;
-      met_16 = two_bits;
+      two_16 = two_bits;
     }

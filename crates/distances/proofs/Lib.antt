@@ -1,4 +1,4 @@
+pub mod FewOnes
 pub mod ZeroFrames
-pub mod TwoBits
-pub mod ThreeBits
+pub mod FramePairs
 pub mod Distances

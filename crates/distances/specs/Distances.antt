@@ -6,11 +6,11 @@ use Rattle.guarantees.specs.Third.{AnyMethod, method_5, method_6, lines_of, Has1
 use Rattle.distances.specs.Met.{MetAt}
 
 pub record DistancesByLength : Type 0 where
-  -- the 32-bit frame: at most 91,639 checked bits
+  -- the 32-bit frame: at least 4 where fewer than 91,640 bits are checked, and two of 3,008 differ in just 4
   pub distance_32 : AtLeastBelow 4 91640 (lines_of method_6)
-  -- from there on three
-  pub met_32 : MetAt 3 91640 (lines_of method_6)
-  -- a 16-bit check, however many bits
+  pub four_32 : MetAt 4 3008 (lines_of method_6)
+  -- two of 91,640 differ in just 3
+  pub three_32 : MetAt 3 91640 (lines_of method_6)
+  -- a 16-bit check: at least 2 at any length, and two of 32,768 checked bits differ in just 2
   pub any_length_16 : (m : AnyMethod) → Has16Bits m → AtLeast 2 (lines_of m)
-  -- from 32,768 checked bits on two
-  pub met_16 : MetAt 2 32768 (lines_of method_5)
+  pub two_16 : MetAt 2 32768 (lines_of method_5)

@@ -12,5 +12,5 @@ pub mod Distinct
 pub mod Numbers
 pub mod Pairs
 pub mod Totals
-pub mod Kept
+pub mod KeptSums
 pub mod FourPowers

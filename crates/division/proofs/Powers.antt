@@ -9,7 +9,7 @@ use lib.ListN.{length}
 use Rattle.bits.specs.Strings.{zeros}
 use Rattle.bits.proofs.Strings.{zeros-append}
 use Rattle.division.specs.Division.{step, divide, remainder, power, PowerIsOne}
-use Rattle.division.proofs.Linear.{remainder-append}
+use Rattle.division.proofs.Linear.{divide-append, remainder-append}
 use Rattle.division.proofs.Zeros.{leading}
 use Rattle.division.proofs.Substitution.{spread_by, length-spread_by, spread_by-zeros, spread_remainder}
 
@@ -57,11 +57,31 @@ module _ (p : List Bool) (sq : Squares p) where
       ∙ ap (times_xif p (n % 2)) (square-power (n / 2))
       ∙ power-times-x p (n / 2 + n / 2) (n % 2) (omega arith) ∙ ap (power p) {x = n / 2 + n / 2 + n % 2} {y = n} (omega arith)
 
+-- ---- registers that a shift by n keeps
+
+abbrev pub Kept : List Bool → List Bool → ℕ → Type 0
+Kept p r n = divide p r (zeros n) ≡ r
+
+module _ (p r : List Bool) where
+  pub kept_rest : (n m : ℕ) → Kept p r n → Kept p r (n + m) → Kept p r m
+  kept_rest n m f g =
+      ap (λ z. divide p z (zeros m)) (sym f) ∙ sym (divide-append p r (zeros n) (zeros m)) ∙ ap (divide p r) (zeros-append n m) ∙ g
+
+  kept-add : (n m : ℕ) → Kept p r n → Kept p r m → Kept p r (n + m)
+  kept-add n m f g =
+      ap (divide p r) (sym (zeros-append n m)) ∙ divide-append p r (zeros n) (zeros m) ∙ ap (λ z. divide p z (zeros m)) f ∙ g
+
+  pub kept_multiple : (k n : ℕ) → Kept p r n → Kept p r (k * n)
+  unfolding divide
+  kept_multiple zero n f = ap (λ m. divide p r (zeros m)) (zero-mul n)
+  kept_multiple (suc k) n f = ap (λ m. divide p r (zeros m)) (suc-mul k n) ∙ kept-add (k * n) n (kept_multiple k n f) f
+
 -- ---- powers that are 1
 
 pub one_add : (p : List Bool) (n m : ℕ) → PowerIsOne p n → power p (n + m) ≡ power p m
 one_add p n m e = power-add p n m ∙ ap (λ z. divide p z (zeros m)) e ∙ sym (power-add p 0 m) ∙ ap (power p) (omega arith)
 
 pub one_multiple : (p : List Bool) (k n : ℕ) → PowerIsOne p n → PowerIsOne p (k * n)
-one_multiple p zero n e = ap (power p) (zero-mul n)
-one_multiple p (suc k) n e = ap (power p) (suc-mul k n) ∙ one_add p (k * n) n (one_multiple p k n e) ∙ e
+one_multiple p k n e =
+    ap (power p) {x = k * n} {y = 0 + k * n} (omega arith) ∙ power-add p 0 (k * n)
+    ∙ kept_multiple p (power p 0) k n (sym (power-add p 0 n) ∙ ap (power p) {x = 0 + n} {y = n} (omega arith) ∙ e)

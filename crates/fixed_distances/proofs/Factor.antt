@@ -14,9 +14,10 @@ use Rattle.division.specs.Division.{divide, remainder, power, PowerIsOne}
 use Rattle.division.specs.Generators.{coefficients}
 use Rattle.division.specs.Laws.{Generator}
 use Rattle.division.proofs.Order.{certified, order, fermat}
+use Rattle.division.proofs.Powers.{Kept}
 use Rattle.division.proofs.Sums.{sum, sum_is, sum_is_lem}
 use Rattle.division.proofs.Totals.{bit, even_of_sum}
-use Rattle.division.proofs.Kept.{Kept, kept_cofactor, kept_sum, kept_zero, kept_apart}
+use Rattle.division.proofs.KeptSums.{kept_cofactor, kept_sum, kept_zero, kept_apart}
 use Rattle.division.proofs.FourPowers.{Cancels}
 
 -- x^11 + x^9 + x^7 + x^5 + x^3 + x + 1

@@ -60,13 +60,14 @@ module _ (L : Lines) (framing : AcceptedHasFraming L) (A B : L.Line) where
       }
 
 -- a burst one bit longer than those that never occur
-in_burst : {n : ℕ} {L : Lines} {A B : L.Line} → NoBurst n L → TwoAccepted L A B → {ns : List ℕ} → differing_checked L A B ≡ ns
-    → Each (λ i. i < suc n) ns → DifferInBurst (suc n) L
-in_burst {L = L} {A} {B} never t {ns} e h =
+in_burst : {n k : ℕ} {L : Lines} {A B : L.Line} → NoBurst n L → TwoAccepted L A B → distance L A B ≡ k → {ns : List ℕ} → differing_checked L A B ≡ ns
+    → Each (λ i. i < suc n) ns → DifferInBurst (suc n) k L
+in_burst {L = L} {A} {B} never t d {ns} e h =
     record {
       A = A;
       B = B;
       two_accepted = t;
+      bits = d;
       burst = rw e (each_map ns (λ i k. each_map ns (λ j l. omega arith) h) h);
       none_shorter = λ b k. never A B t b (omega arith);
     }
@@ -125,16 +126,16 @@ matrix_pair Odd =
     }
 
 -- two characters exchanged
-exchanged_pair : (p : Parity) → DifferInBurst 10 (lines_of (method_2 koi7 p))
+exchanged_pair : (p : Parity) → DifferInBurst 10 4 (lines_of (method_2 koi7 p))
 unfolding framed framing_of checked_bits parity_right character sign_of check_of check_length pack pack_into value matrix_check row_sums low_bits bits_of xor
 exchanged_pair Even =
     in_burst (third_property.burst_matrix koi7 Even)
     (text_pair koi7 method.Matrix Even 2 (0x82 ∷ 0x41 ∷ 0x42 ∷ 0x03 ∷ 0x00 ∷ []) (0x82 ∷ 0x42 ∷ 0x41 ∷ 0x03 ∷ 0x00 ∷ [])
-    (omega arith) refl refl (refl, refl) (refl, refl) refl) {ns = 0 ∷ 1 ∷ 8 ∷ 9 ∷ []} refl (omega arith)
+    (omega arith) refl refl (refl, refl) (refl, refl) refl) refl {ns = 0 ∷ 1 ∷ 8 ∷ 9 ∷ []} refl (omega arith)
 exchanged_pair Odd =
     in_burst (third_property.burst_matrix koi7 Odd)
     (text_pair koi7 method.Matrix Odd 2 (0x02 ∷ 0xC1 ∷ 0xC2 ∷ 0x83 ∷ 0x80 ∷ []) (0x02 ∷ 0xC2 ∷ 0xC1 ∷ 0x83 ∷ 0x80 ∷ [])
-    (omega arith) refl refl (refl, refl) (refl, refl) refl) {ns = 0 ∷ 1 ∷ 8 ∷ 9 ∷ []} refl (omega arith)
+    (omega arith) refl refl (refl, refl) (refl, refl) refl) refl {ns = 0 ∷ 1 ∷ 8 ∷ 9 ∷ []} refl (omega arith)
 
 -- the text's first character and the row check: columns 1 and 8 of eight
 eight_columns : (p : Parity) → DifferInColumns 4 7 (1 ∷ 1 ∷ 8 ∷ 8 ∷ []) (lines_of (method_7 koi7 p))
@@ -193,29 +194,29 @@ three_columns Odd =
     }
 
 -- texts that differ by the generator: x^16 + x^12 + x^5 + 1, and x^16 + x^15 + x^2 + 1
-burst_3 : (c : Code) (p : Parity) → DifferInBurst 17 (lines_of (method_3 (table_of c) p))
+burst_3 : (c : Code) (p : Parity) → DifferInBurst 17 4 (lines_of (method_3 (table_of c) p))
 unfolding framed framing_of checked_bits character sign_of check_of check_length pack pack_into value check_bits formula method3 ccitt16 remainder divide low_bits bits_of xor
 burst_3 Koi7 p =
     in_burst (third_property.burst_16 (method_3 koi7 p) tt)
     (text_pair koi7 method.Cyclic p 3 (0x02 ∷ 0x44 ∷ 0x44 ∷ 0x44 ∷ 0x03 ∷ 0x0F ∷ 0xEE ∷ []) (0x02 ∷ 0x55 ∷ 0x4C ∷ 0x45 ∷ 0x03 ∷ 0x0F ∷ 0xEE ∷ [])
-    (omega arith) refl refl (refl, refl) (refl, refl) refl) {ns = 0 ∷ 4 ∷ 11 ∷ 16 ∷ []} refl (omega arith)
+    (omega arith) refl refl (refl, refl) (refl, refl) refl) refl {ns = 0 ∷ 4 ∷ 11 ∷ 16 ∷ []} refl (omega arith)
 burst_3 Dkoi p =
     in_burst (third_property.burst_16 (method_3 dkoi p) tt)
     (text_pair dkoi method.Cyclic p 3 (0x02 ∷ 0x44 ∷ 0x44 ∷ 0x44 ∷ 0x03 ∷ 0x0F ∷ 0xEE ∷ []) (0x02 ∷ 0x55 ∷ 0x4C ∷ 0x45 ∷ 0x03 ∷ 0x0F ∷ 0xEE ∷ [])
-    (omega arith) refl refl (refl, refl) (refl, refl) refl) {ns = 0 ∷ 4 ∷ 11 ∷ 16 ∷ []} refl (omega arith)
+    (omega arith) refl refl (refl, refl) (refl, refl) refl) refl {ns = 0 ∷ 4 ∷ 11 ∷ 16 ∷ []} refl (omega arith)
 
-burst_4 : (c : Code) (p : Parity) → DifferInBurst 17 (lines_of (method_4 (table_of c) p))
+burst_4 : (c : Code) (p : Parity) → DifferInBurst 17 4 (lines_of (method_4 (table_of c) p))
 unfolding framed framing_of checked_bits character sign_of check_of check_length pack pack_into value check_bits formula method4 ibm16 remainder divide low_bits bits_of xor
 burst_4 Koi7 p =
     in_burst (third_property.burst_16 (method_4 koi7 p) tt)
     (text_pair koi7 method.CyclicAlternative p 3 (0x02 ∷ 0x44 ∷ 0x71 ∷ 0x44 ∷ 0x03 ∷ 0x37 ∷ 0xEA ∷ [])
     (0x02 ∷ 0x47 ∷ 0x31 ∷ 0x45 ∷ 0x03 ∷ 0x37 ∷ 0xEA ∷ [])
-    (omega arith) refl refl (refl, refl) (refl, refl) refl) {ns = 0 ∷ 1 ∷ 14 ∷ 16 ∷ []} refl (omega arith)
+    (omega arith) refl refl (refl, refl) (refl, refl) refl) refl {ns = 0 ∷ 1 ∷ 14 ∷ 16 ∷ []} refl (omega arith)
 burst_4 Dkoi p =
     in_burst (third_property.burst_16 (method_4 dkoi p) tt)
     (text_pair dkoi method.CyclicAlternative p 3 (0x02 ∷ 0x44 ∷ 0x71 ∷ 0x44 ∷ 0x03 ∷ 0x37 ∷ 0xEA ∷ [])
     (0x02 ∷ 0x47 ∷ 0x31 ∷ 0x45 ∷ 0x03 ∷ 0x37 ∷ 0xEA ∷ [])
-    (omega arith) refl refl (refl, refl) (refl, refl) refl) {ns = 0 ∷ 1 ∷ 14 ∷ 16 ∷ []} refl (omega arith)
+    (omega arith) refl refl (refl, refl) (refl, refl) refl) refl {ns = 0 ∷ 1 ∷ 14 ∷ 16 ∷ []} refl (omega arith)
 
 -- ---- frames, of contents that differ by the generator and so have one check
 
@@ -244,39 +245,39 @@ terms_5 = 0 ∷ 4 ∷ 11 ∷ 16 ∷ []
 abbrev terms_6 : List ℕ
 terms_6 = 0 ∷ 6 ∷ 9 ∷ 10 ∷ 16 ∷ 20 ∷ 21 ∷ 22 ∷ 24 ∷ 25 ∷ 27 ∷ 28 ∷ 30 ∷ 31 ∷ 32 ∷ []
 
-burst_5 : DifferInBurst 17 (lines_of method_5)
+burst_5 : DifferInBurst 17 4 (lines_of method_5)
 unfolding low_bits bits_of check_bits cyclic.checked_bits formula method5 divide remainder ccitt16 is_fifth run_on stuff unstuff behind_five flag enclose frame_of frame-reading.framed frame-reading.framing_of frame-lines.checked_bits xor
 burst_5 =
     in_burst (third_property.burst_16 method_5 tt)
-    (frame_pair method5 (bits_of (0x79 ∷ 0x42 ∷ 0xBD ∷ [])) (bits_of (0x68 ∷ 0x4A ∷ 0xBC ∷ [])) refl refl (refl, refl) (refl, refl) refl)
+    (frame_pair method5 (bits_of (0x79 ∷ 0x42 ∷ 0xBD ∷ [])) (bits_of (0x68 ∷ 0x4A ∷ 0xBC ∷ [])) refl refl (refl, refl) (refl, refl) refl) refl
     {ns = terms_5} refl (omega arith)
 
-burst_6 : DifferInBurst 33 (lines_of method_6)
+burst_6 : DifferInBurst 33 15 (lines_of method_6)
 unfolding low_bits bits_of check_bits cyclic.checked_bits formula method6 divide remainder ieee32 is_fifth run_on stuff unstuff behind_five flag enclose frame_of frame-reading.framed frame-reading.framing_of frame-lines.checked_bits xor
 burst_6 =
     in_burst third_property.burst_32
     (frame_pair method6 (bits_of (0x9A ∷ 0xD7 ∷ 0xC5 ∷ 0xB3 ∷ 0xD0 ∷ [])) (bits_of (0xDB ∷ 0xD1 ∷ 0xB4 ∷ 0x68 ∷ 0xD1 ∷ []))
-    refl refl (refl, refl) (refl, refl) refl)
+    refl refl (refl, refl) (refl, refl) refl) refl
     {ns = terms_6} refl (omega arith)
 
 -- one content bit, whose change changes the check by the generator's other terms
-one_bit_5 : DifferFromEndToEnd 17 (lines_of method_5)
+one_bit_5 : DifferFromEndToEnd 17 4 (lines_of method_5)
 unfolding low_bits bits_of check_bits cyclic.checked_bits formula method5 divide remainder ccitt16 is_fifth run_on stuff unstuff behind_five flag enclose frame_of frame-reading.framed frame-reading.framing_of frame-lines.checked_bits xor in_burst
 one_bit_5 =
     record {
       in_burst =
           in_burst (third_property.burst_16 method_5 tt)
-          (frame_pair method5 (false ∷ []) (true ∷ []) refl refl (refl, refl) (refl, refl) refl) {ns = terms_5} refl (omega arith);
+          (frame_pair method5 (false ∷ []) (true ∷ []) refl refl (refl, refl) (refl, refl) refl) refl {ns = terms_5} refl (omega arith);
       checked = refl;
     }
 
-one_bit_6 : DifferFromEndToEnd 33 (lines_of method_6)
+one_bit_6 : DifferFromEndToEnd 33 15 (lines_of method_6)
 unfolding low_bits bits_of check_bits cyclic.checked_bits formula method6 divide remainder ieee32 is_fifth run_on stuff unstuff behind_five flag enclose frame_of frame-reading.framed frame-reading.framing_of frame-lines.checked_bits xor in_burst
 one_bit_6 =
     record {
       in_burst =
           in_burst third_property.burst_32
-          (frame_pair method6 (false ∷ []) (true ∷ []) refl refl (refl, refl) (refl, refl) refl) {ns = terms_6} refl (omega arith);
+          (frame_pair method6 (false ∷ []) (true ∷ []) refl refl (refl, refl) (refl, refl) refl) refl {ns = terms_6} refl (omega arith);
       checked = refl;
     }
 

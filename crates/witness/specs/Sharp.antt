@@ -16,17 +16,18 @@ pub record DifferInJust (n : ℕ) (L : Lines) : Type 0 where
   pub two_accepted : TwoAccepted L A B
   pub bits : distance L A B ≡ n
 
--- in one burst of n bits, and in none of fewer
-pub record DifferInBurst (n : ℕ) (L : Lines) : Type 0 where
+-- in just k bits, which are one burst of n bits and none of fewer
+pub record DifferInBurst (n k : ℕ) (L : Lines) : Type 0 where
   pub A : L.Line
   pub B : L.Line
   pub two_accepted : TwoAccepted L A B
+  pub bits : distance L A B ≡ k
   pub burst : Burst n (differing_checked L A B)
   pub none_shorter : (b : ℕ) → b < n → Burst b (differing_checked L A B) → ⊥
 
 -- so, with as many checked bits as the burst has
-pub record DifferFromEndToEnd (n : ℕ) (L : Lines) : Type 0 where
-  pub in_burst : DifferInBurst n L
+pub record DifferFromEndToEnd (n k : ℕ) (L : Lines) : Type 0 where
+  pub in_burst : DifferInBurst n k L
   pub checked : length (L.checked_bits in_burst.A) ≡ n
 
 -- in just m bits, of these columns, with n counted bytes
@@ -38,15 +39,15 @@ pub record DifferInColumns (m n : ℕ) (columns : List ℕ) (L : Lines) : Type 0
 pub record SharpBounds : Type 0 where
   pub distance-parity : (p : Parity) → DifferInJust 2 (lines_of (method_1 koi7 p))
   pub distance_matrix : (p : Parity) → DifferInJust 4 (lines_of (method_2 koi7 p))
-  pub burst_matrix : (p : Parity) → DifferInBurst 10 (lines_of (method_2 koi7 p))
+  pub burst_matrix : (p : Parity) → DifferInBurst 10 4 (lines_of (method_2 koi7 p))
   -- under either code
-  pub burst_3 : (c : Code) (p : Parity) → DifferInBurst 17 (lines_of (method_3 (table_of c) p))
-  pub burst_4 : (c : Code) (p : Parity) → DifferInBurst 17 (lines_of (method_4 (table_of c) p))
-  pub burst_5 : DifferInBurst 17 (lines_of method_5)
-  pub burst_32 : DifferInBurst 33 (lines_of method_6)
+  pub burst_3 : (c : Code) (p : Parity) → DifferInBurst 17 4 (lines_of (method_3 (table_of c) p))
+  pub burst_4 : (c : Code) (p : Parity) → DifferInBurst 17 4 (lines_of (method_4 (table_of c) p))
+  pub burst_5 : DifferInBurst 17 4 (lines_of method_5)
+  pub burst_32 : DifferInBurst 33 15 (lines_of method_6)
   -- frames of one content bit (document 02, card 13), which with its check is the burst
-  pub one_bit_5 : DifferFromEndToEnd 17 (lines_of method_5)
-  pub one_bit_32 : DifferFromEndToEnd 33 (lines_of method_6)
+  pub one_bit_5 : DifferFromEndToEnd 17 4 (lines_of method_5)
+  pub one_bit_32 : DifferFromEndToEnd 33 15 (lines_of method_6)
   -- with n + 1 = 8, columns 1 and 8; with n + 1 = 3, six bits
   pub four_diagonal : (p : Parity) → DifferInColumns 4 7 (1 ∷ 1 ∷ 8 ∷ 8 ∷ []) (lines_of (method_7 koi7 p))
   pub six_diagonal : (p : Parity) → DifferInColumns 6 2 (1 ∷ 1 ∷ 3 ∷ 3 ∷ 4 ∷ 4 ∷ []) (lines_of (method_7 koi7 p))

@@ -1,7 +1,7 @@
--- Registers that a shift by n keeps: those of sums of powers are 0 where x^n + 1 is a power of x. Assumes nothing.
+-- Sums of powers that a shift by n keeps: they are 0 where x^n + 1 is a power of x. Assumes nothing.
 use mathlib.Core.Path.{◌≡◌, refl, sym, ap, ap₂, ◌∙◌}
-use Prim.Native.Nat.{ℕ, zero, suc, ◌+◌, ◌-◌, ◌*◌, ◌%◌, ◌<◌}
-use native.Mathlib.Nat.{zero-mul, suc-mul, mul-add, mul_comm, mul_left_comm}
+use Prim.Native.Nat.{ℕ, ◌+◌, ◌-◌, ◌*◌, ◌%◌, ◌<◌}
+use native.Mathlib.Nat.{mul-add, mul_comm, mul_left_comm}
 use native.Mathlib.Omega.{arith}
 use mathlib.Core.Bool.{Bool, true}
 use mathlib.Core.List.{List, [], ◌∷◌, map}
@@ -12,28 +12,12 @@ use Rattle.bits.proofs.Strings.{length-zeros, zeros-append}
 use Rattle.division.specs.Division.{divide, power, PowerIsOne, constant_term}
 use Rattle.division.proofs.Linear.{length-divide, divide-append}
 use Rattle.division.proofs.Zeros.{divide-zeros, divide_injective}
-use Rattle.division.proofs.Powers.{one_add}
+use Rattle.division.proofs.Powers.{Kept, kept_rest, kept_multiple, one_add}
 use Rattle.division.proofs.Order.{fermat, inverse}
 use Rattle.division.proofs.Sums.{sum, length-sum, divide-sum}
 use Rattle.division.proofs.Totals.{bit, total, Even, one_total, equal_sums, even_of_sum, sum_of_even, brought_up}
 
-abbrev pub Kept : List Bool → List Bool → ℕ → Type 0
-Kept p r n = divide p r (zeros n) ≡ r
-
 module _ (p r : List Bool) where
-  kept_rest : (n m : ℕ) → Kept p r n → Kept p r (n + m) → Kept p r m
-  kept_rest n m f g =
-      ap (λ z. divide p z (zeros m)) (sym f) ∙ sym (divide-append p r (zeros n) (zeros m)) ∙ ap (divide p r) (zeros-append n m) ∙ g
-
-  kept-add : (n m : ℕ) → Kept p r n → Kept p r m → Kept p r (n + m)
-  kept-add n m f g =
-      ap (divide p r) (sym (zeros-append n m)) ∙ divide-append p r (zeros n) (zeros m) ∙ ap (λ z. divide p z (zeros m)) f ∙ g
-
-  kept_multiple : (k n : ℕ) → Kept p r n → Kept p r (k * n)
-  unfolding divide
-  kept_multiple zero n f = ap (λ m. divide p r (zeros m)) (zero-mul n)
-  kept_multiple (suc k) n f = ap (λ m. divide p r (zeros m)) (suc-mul k n) ∙ kept-add (k * n) n (kept_multiple k n f) f
-
   -- what shifts by q m and by n keep, a shift by m keeps, where the prime q does not divide n
   pub kept_cofactor : (q m n : ℕ) → 0 < q → T (fermat q) → (n % q ≡ 0 → ⊥) → Kept p r (q * m) → Kept p r n → Kept p r m
   kept_cofactor q m n pos prime apart f g = go (inverse q n pos prime apart)
@@ -42,8 +26,8 @@ module _ (p r : List Bool) where
       go (u, K, e) =
           let s : K * (q * m) + m ≡ m * (u * n) =
           omega (arith, ap (λ z. m * z) e, mul-add m (K * q) 1, mul_left_comm m K q, ap (λ z. K * z) (mul_comm m q)) in
-          kept_rest (K * (q * m)) m (kept_multiple K (q * m) f)
-          (ap (λ z. divide p r (zeros z)) s ∙ kept_multiple m (u * n) (kept_multiple u n g))
+          kept_rest p r (K * (q * m)) m (kept_multiple p r K (q * m) f)
+          (ap (λ z. divide p r (zeros z)) s ∙ kept_multiple p r m (u * n) (kept_multiple p r u n g))
 
 -- ---- sums of powers
 
