@@ -10,11 +10,11 @@ pub record FixedDistances : Type 0 where
   pub strings_8 : AtLeastWithin 4 127 fixed8
   pub strings_16 : AtLeastWithin 6 128 fixed16
   pub strings_24 : AtLeastWithin 6 2048 fixed24
-  -- it is not so of one bit more: (x^127 + 1), and (x^127 + 1)(x + 1) and (x^2047 + 1)(x + 1)
+  -- but not of one bit more: x^127 + 1, (x^127 + 1)(x + 1) and (x^2047 + 1)(x + 1)
   pub longer_8 : Multiple 2 128 fixed8
   pub longer_16 : Multiple 4 129 fixed16
   pub longer_24 : Multiple 4 2049 fixed24
-  -- nor of one bit more wrong: the polynomial itself, x^27 + x^10 + x^6 + x^5 + x^2 + 1, and x^55 + x^53 + x^49 + x^43 + x^16 + 1
+  -- nor with a higher bound: the polynomial itself, x^27 + x^10 + x^6 + x^5 + x^2 + 1 and x^55 + x^53 + x^49 + x^43 + x^16 + 1
   pub multiple_8 : Multiple 4 9 fixed8
   pub multiple_16 : Multiple 6 28 fixed16
   pub multiple_24 : Multiple 6 56 fixed24
