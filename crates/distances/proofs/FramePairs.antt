@@ -1,6 +1,5 @@
 -- Frames that differ in just two, three and four bits, by multiples of the generator with so many terms. Computed. Assumes nothing.
 use mathlib.Core.Path.{refl}
-use Prim.Native.Nat.{suc, ◌+◌, ◌*◌, ◌%◌, ◌≤◌}
 use native.Mathlib.Omega.{arith}
 use mathlib.Core.Bool.{Bool, true, xor}
 use mathlib.Core.List.{List, [], ◌∷◌, ◌++◌}
@@ -26,7 +25,6 @@ unfolding remainder_two second_two method5 ccitt16 divide remainder power xor
 pair_two =
     record {
       check = tt;
-      whole = refl;
       content = omega arith;
       within = omega arith;
       few_first = tt;
@@ -52,7 +50,6 @@ unfolding remainder_three second_three method6 ieee32 divide remainder power xor
 pair_three =
     record {
       check = tt;
-      whole = refl;
       content = omega arith;
       within = omega arith;
       few_first = tt;
@@ -78,7 +75,6 @@ unfolding remainder_four second_four method6 ieee32 divide remainder power xor
 pair_four =
     record {
       check = tt;
-      whole = refl;
       content = omega arith;
       within = omega arith;
       few_first = tt;

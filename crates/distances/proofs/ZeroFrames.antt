@@ -1,7 +1,7 @@
 -- Frames whose content is zeros: their check is a sum of powers of x. A frame that differs from such a one by a multiple of the generator
 -- is accepted too. Assumes nothing.
-use mathlib.Core.Path.{◌≡◌, refl, sym, ap, ap₂, ◌∙◌}
-use Prim.Native.Nat.{ℕ, suc, ◌+◌, ◌-◌, ◌*◌, ◌%◌, ◌≤◌}
+use mathlib.Core.Path.{◌≡◌, sym, ap, ap₂, ◌∙◌}
+use Prim.Native.Nat.{ℕ, ◌+◌, ◌-◌, ◌*◌, ◌≤◌}
 use native.Mathlib.Omega.{arith}
 use mathlib.Core.Bool.{Bool}
 use mathlib.Core.List.{List, [], ◌∷◌, ◌++◌, map}
@@ -63,8 +63,7 @@ module _ (m : Parameters) (w : ℕ) (wide : OfWidth w m) where
   -- ---- checked bits without five ones in a row, between two flags
 
   record Encloses (s : List Bool) : Type 0 where
-    whole : length s % 8 ≡ 0
-    content : 8 + w ≤ length s
+    content : 1 + w ≤ length s
     within : length s ≤ 8 * m.limit + w
     few : T (few_ones 0 s)
 
@@ -72,7 +71,7 @@ module _ (m : Parameters) (w : ℕ) (wide : OfWidth w m) where
     frame_found : framed m (enclose s) ≡ found s
     frame_found =
         let k = wide.generator.width in
-        framed_enclosed s m e.whole (omega (arith, e.content)) (omega (arith, e.within))
+        framed_enclosed s m (omega (arith, e.content)) (omega (arith, e.within))
 
     frame_framing : framing_of m (enclose s) ≡ framing []
     unfolding framing_of
@@ -99,8 +98,7 @@ module _ (m : Parameters) (w : ℕ) (wide : OfWidth w m) where
   -- by squaring, exponents of k binary digits
   pub record Pair (k n : ℕ) (r t : List Bool) (ds : List ℕ) : Type 0 where
     pub check : T (sum_is p k (map (λ d. d + n) (degrees m.start)) r)
-    pub whole : (n + w) % 8 ≡ 0
-    pub content : 8 ≤ n
+    pub content : 1 ≤ n
     pub within : n ≤ 8 * m.limit
     pub few_first : T (few_ones 0 (zeros n ++ check_of r))
     pub few_second : T (few_ones 0 t)
@@ -125,10 +123,10 @@ module _ (m : Parameters) (w : ℕ) (wide : OfWidth w m) where
     length-first = length-append (zeros n) c ∙ omega (arith, length-zeros n, check-length)
 
     a : Encloses s
-    a = record { whole = ap (λ k. k % 8) length-first ∙ q.whole; content = omega (arith, length-first, q.content); within = omega (arith, length-first, q.within); few = q.few_first }
+    a = record { content = omega (arith, length-first, q.content); within = omega (arith, length-first, q.within); few = q.few_first }
 
     b : Encloses t
-    b = record { whole = ap (λ k. k % 8) q.size ∙ q.whole; content = omega (arith, q.size, q.content); within = omega (arith, q.size, q.within); few = q.few_second }
+    b = record { content = omega (arith, q.size, q.content); within = omega (arith, q.size, q.within); few = q.few_second }
 
     first_accepted : Accepted m (enclose s)
     first_accepted = frame_accepted s a (right_zeros n c check-length check_is)
