@@ -14,3 +14,8 @@ pub record DistancesByLength : Type 0 where
   -- a 16-bit check: at least 2 at any length, and two of 32,768 checked bits differ in just 2
   pub any_length_16 : (m : AnyMethod) → Has16Bits m → AtLeast 2 (lines_of m)
   pub two_16 : MetAt 2 32768 (lines_of method_5)
+  -- so neither holds of one checked bit more, nor with one bit more
+  pub no_longer_32 : AtLeastBelow 4 91641 (lines_of method_6) → ⊥
+  pub no_more_32 : AtLeastBelow 5 91640 (lines_of method_6) → ⊥
+  pub no_longer_16 : AtLeastBelow 4 32769 (lines_of method_5) → ⊥
+  pub no_more_16 : AtLeast 3 (lines_of method_5) → ⊥
