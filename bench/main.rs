@@ -3,8 +3,8 @@
 
 mod agree;
 mod calls;
-#[path = "../bindings/rust/corridor.rs"]
-#[allow(dead_code)]
+#[path = "../bindings/rust/src/lib.rs"]
+#[allow(dead_code, unused_attributes)]
 mod corridor;
 #[path = "../tests/peer/frames.rs"]
 #[allow(dead_code)]

@@ -10,8 +10,8 @@
 //! document 01 was never met.
 
 mod claims;
-#[allow(dead_code)]
-#[path = "../../bindings/rust/corridor.rs"]
+#[allow(dead_code, unused_attributes)]
+#[path = "../../bindings/rust/src/lib.rs"]
 mod corridor;
 mod expected;
 mod fixed_blocks;

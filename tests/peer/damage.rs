@@ -11,8 +11,8 @@
 //! assertion where the third property does not hold.
 
 mod burst;
-#[allow(dead_code)]
-#[path = "../../bindings/rust/corridor.rs"]
+#[allow(dead_code, unused_attributes)]
+#[path = "../../bindings/rust/src/lib.rs"]
 mod corridor;
 mod counts;
 mod diagonals;

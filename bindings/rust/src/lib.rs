@@ -6,11 +6,40 @@
 //!
 //! The calls allocate nothing. Every call finishes with a full result or with
 //! a [`Refusal`]; after a refusal the lent output holds what it held before,
-//! and output past what a success names keeps its bytes. What each number
-//! means stands in `include/corridor.h`.
+//! and output past what a success names keeps its bytes. A call names its
+//! refusals in the order in which it asks; `docs/NUMBERS.md` has the question
+//! behind each.
 //!
-//! The module is one file: take it into a program with `mod corridor;` and
-//! link the static library `corridor`.
+//! ```
+//! use corridor::{BlockMethod, Code, EndSign, Link, Parity, Shape};
+//!
+//! let link = Link {
+//!     method: BlockMethod::Matrix,
+//!     parity: Parity::Even,
+//!     code: Code::Koi7,
+//! };
+//! let mut line = [0; corridor::longest_line(Shape::Text, 0, 1)];
+//! let form = (Shape::Text, EndSign::Etx);
+//! let length = corridor::write_block(link, form, b"", b"A", &mut line)?;
+//! assert_eq!(line[..length], [0x82, 0x41, 0x03, 0x42]);
+//!
+//! line[2] ^= 1;
+//! let mut out = [0; 4];
+//! let refusal = corridor::read_block(link, &line[..length], &mut out).unwrap_err();
+//! assert_eq!((refusal.number, refusal.value), (12, 2));
+//! # Ok::<(), corridor::Refusal>(())
+//! ```
+//!
+//! The package has no dependencies and needs no standard library. Its build
+//! script looks for `libcorridor.a` in the folder that CORRIDOR_LIB_DIR names,
+//! otherwise where the repository's `tests/build` puts it. The module is one
+//! file, which a program can also take in with `mod corridor;` and link with
+//! the static library itself.
+
+#![no_std]
+#![deny(missing_docs)]
+
+use core::fmt;
 
 /// How a block is checked.
 #[derive(Clone, Copy, PartialEq, Eq, Debug)]
@@ -74,8 +103,11 @@ pub enum Code {
 /// What a link sets for all its blocks.
 #[derive(Clone, Copy, PartialEq, Eq, Debug)]
 pub struct Link {
+    /// How its blocks are checked.
     pub method: BlockMethod,
+    /// The parity of their bytes.
     pub parity: Parity,
+    /// The code of their signs.
     pub code: Code,
 }
 
@@ -118,8 +150,11 @@ impl Shape {
 #[derive(Clone, Copy, PartialEq, Eq, Debug)]
 #[repr(u8)]
 pub enum EndSign {
+    /// The end of a text.
     Etx = 0x03,
+    /// The end of a block.
     Etb = 0x17,
+    /// The end of a unit.
     Us = 0x1F,
 }
 
@@ -144,12 +179,24 @@ pub struct Refusal {
     pub value: usize,
 }
 
+impl fmt::Display for Refusal {
+    fn fmt(&self, f: &mut fmt::Formatter) -> fmt::Result {
+        write!(f, "refused {} {}", self.number, self.value)
+    }
+}
+
+impl core::error::Error for Refusal {}
+
 /// An accepted block: the output starts with the header, then the text.
 #[derive(Clone, Copy, PartialEq, Eq, Debug)]
 pub struct Block {
+    /// Its fields.
     pub shape: Shape,
+    /// The sign that ends it.
     pub end_sign: EndSign,
+    /// The bytes of its header.
     pub header_length: usize,
+    /// The bytes of its text.
     pub text_length: usize,
     /// The bytes that entered the check.
     pub counted: usize,
@@ -158,8 +205,11 @@ pub struct Block {
 /// What a received number tells.
 #[derive(Clone, Copy, PartialEq, Eq, Debug)]
 pub enum Arrival {
+    /// The awaited block.
     New,
+    /// One of those before it.
     Repeat,
+    /// A later one: blocks between were lost.
     Lost,
 }
 
@@ -196,6 +246,8 @@ pub const fn longest_frame(method: FrameMethod, bits: usize) -> usize {
 }
 
 /// Reads one block from `line`; header and text go to the start of `out`.
+///
+/// Refusals: 58, 11, 12, 13, 14, 15, 52, 53, 17, 18, 54, 19.
 pub fn read_block(link: Link, line: &[u8], out: &mut [u8]) -> Result<Block, Refusal> {
     let mut answer = [0; 5];
     let number = codes::read_block(link.codes(), line, out, &mut answer);
@@ -210,6 +262,8 @@ pub fn read_block(link: Link, line: &[u8], out: &mut [u8]) -> Result<Block, Refu
 }
 
 /// Writes one block to the start of `out` and gives the length of its line.
+///
+/// Refusals: 58, 1, 4, 2, 3, 5, 6.
 pub fn write_block(
     link: Link,
     (shape, end_sign): (Shape, EndSign),
@@ -226,6 +280,8 @@ pub fn write_block(
 /// Reads one frame of `bits` bits from `lent`; gives the number of content
 /// bits, 8 * n for n whole bytes. They stand at the start of `out`, the low bit
 /// of each byte first; spare high bits of the last byte are zero.
+///
+/// Refusals: 31, 32, 33, 35, 36, 37, 38.
 pub fn read_frame(
     method: FrameMethod,
     bits: usize,
@@ -240,6 +296,8 @@ pub fn read_frame(
 /// Writes one frame of the first `bits` bits of `content`, the low bit of each
 /// byte first, to the start of `out` and gives its number of bits. n whole bytes
 /// are 8 * n bits; bits of `content` behind those claimed are ignored.
+///
+/// Refusals: 66, 21, 22, 23.
 pub fn write_frame(
     method: FrameMethod,
     bits: usize,
@@ -255,6 +313,8 @@ pub fn write_frame(
 /// one is new, each of the `window` before it a repeat, and any other shows
 /// that blocks were lost. Gives the arrival and the number awaited afterwards.
 /// After a refusal the awaited number stays.
+///
+/// Refusals: 41, 51, 42, 43.
 pub fn receive(n: u8, window: u8, awaited: u8, received: u8) -> Result<(Arrival, u8), Refusal> {
     let mut answer = [0; 2];
     let number = codes::receive(n, window, awaited, received, &mut answer);
@@ -286,6 +346,8 @@ impl Station {
 /// Takes a block into the store, which has `window` cells of [`CELL`] bytes,
 /// and gives its number, modulus 2^n. After a refusal record and store are as
 /// they were.
+///
+/// Refusals: 41, 51, 6, 57, 55.
 pub fn submit(
     (n, window): (u8, u8),
     station: &mut Station,
@@ -299,6 +361,8 @@ pub fn submit(
 
 /// The far station names the last block that it received: that one and all
 /// before it are freed. Gives how many.
+///
+/// Refusals: 41, 51, 6, 56.
 pub fn acknowledge(
     (n, window): (u8, u8),
     station: &mut Station,
@@ -412,11 +476,15 @@ pub fn tell_block(
 
 /// Lays the text in rows of `d` bytes and puts its columns, one after the
 /// other, to the start of `out`.
+///
+/// Refusals: 59, 60.
 pub fn interleave(d: usize, text: &[u8], out: &mut [u8]) -> Result<(), Refusal> {
     value_of(codes::interleave(d, text, out), 0).map(|_| ())
 }
 
 /// Gives back the text of a line, at the start of `out`.
+///
+/// Refusals: 59, 60.
 pub fn deinterleave(d: usize, line: &[u8], out: &mut [u8]) -> Result<(), Refusal> {
     value_of(codes::deinterleave(d, line, out), 0).map(|_| ())
 }
@@ -428,7 +496,9 @@ pub const RECORD: usize = 16;
 /// the awaited number at the end.
 #[derive(Clone, Copy, PartialEq, Eq, Debug)]
 pub struct PanelReading {
+    /// The record of the station.
     pub station: Station,
+    /// The awaited number.
     pub awaited: u8,
 }
 
@@ -436,14 +506,19 @@ pub struct PanelReading {
 /// record, zeros if there is none.
 #[derive(Clone, Copy, PartialEq, Eq, Debug)]
 pub struct ServiceReading {
+    /// The record of the station.
     pub station: Station,
+    /// The awaited number.
     pub awaited: u8,
+    /// Bytes 4 to 15 of the last record.
     pub notes: [u8; 12],
 }
 
 /// Replays a trace, which is records of [`RECORD`] bytes, from a fresh station
 /// and the awaited number 0. The store, `window` cells of [`CELL`] bytes, takes
 /// what the submissions store; after a refusal it is as it was.
+///
+/// Refusals: 41, 51, 6, 61, 62.
 pub fn replay_panel(
     (n, window): (u8, u8),
     trace: &[u8],
@@ -456,6 +531,8 @@ pub fn replay_panel(
 }
 
 /// The same for the service reader.
+///
+/// Refusals: 41, 51, 6, 61, 62.
 pub fn replay_service(
     (n, window): (u8, u8),
     trace: &[u8],
@@ -473,6 +550,8 @@ pub fn replay_service(
 
 /// Writes the fixed block of a content to the start of `out` and gives its
 /// length. The check stands behind the content.
+///
+/// Refusals: 64, 65, 6.
 pub fn write_fixed(degree: Degree, content: &[u8], out: &mut [u8]) -> Result<usize, Refusal> {
     let mut value = 0;
     let number = codes::write_fixed(degree as u8, content, out, &mut value);
@@ -481,6 +560,8 @@ pub fn write_fixed(degree: Degree, content: &[u8], out: &mut [u8]) -> Result<usi
 
 /// Reads a fixed block; gives the number of content bytes, which stand at the
 /// start of `out`.
+///
+/// Refusals: 64, 65, 18, 19.
 pub fn read_fixed(degree: Degree, block: &[u8], out: &mut [u8]) -> Result<usize, Refusal> {
     let mut value = 0;
     let number = codes::read_fixed(degree as u8, block, out, &mut value);
@@ -514,12 +595,16 @@ pub fn check_6(content: &[u8]) -> u32 {
 /// A part of a content: its check, and its length in bytes.
 #[derive(Clone, Copy, PartialEq, Eq, Debug)]
 pub struct Part<Check> {
+    /// Its check.
     pub check: Check,
+    /// Its bytes.
     pub length: usize,
 }
 
-/// The check of method 3 of two parts joined, from what is known of each; 63
-/// where they have over 4,096 bytes together.
+/// The check of method 3 of two parts joined, from what is known of each; they
+/// have at most 4,096 bytes together.
+///
+/// Refusals: 63.
 pub fn join_3(first: Part<u16>, second: Part<u16>) -> Result<u16, Refusal> {
     let mut value = 0;
     let (first, second) = ((first.check, first.length), (second.check, second.length));
@@ -527,8 +612,10 @@ pub fn join_3(first: Part<u16>, second: Part<u16>) -> Result<u16, Refusal> {
     value_of(number, value).map(|value| value as u16)
 }
 
-/// The check of method 4 of two parts joined, from what is known of each; 63
-/// where they have over 4,096 bytes together.
+/// The check of method 4 of two parts joined, from what is known of each; they
+/// have at most 4,096 bytes together.
+///
+/// Refusals: 63.
 pub fn join_4(first: Part<u16>, second: Part<u16>) -> Result<u16, Refusal> {
     let mut value = 0;
     let (first, second) = ((first.check, first.length), (second.check, second.length));
@@ -536,8 +623,10 @@ pub fn join_4(first: Part<u16>, second: Part<u16>) -> Result<u16, Refusal> {
     value_of(number, value).map(|value| value as u16)
 }
 
-/// The check of method 5 of two parts joined, from what is known of each; 63
-/// where they have over 4,096 bytes together.
+/// The check of method 5 of two parts joined, from what is known of each; they
+/// have at most 4,096 bytes together.
+///
+/// Refusals: 63.
 pub fn join_5(first: Part<u16>, second: Part<u16>) -> Result<u16, Refusal> {
     let mut value = 0;
     let (first, second) = ((first.check, first.length), (second.check, second.length));
@@ -545,8 +634,10 @@ pub fn join_5(first: Part<u16>, second: Part<u16>) -> Result<u16, Refusal> {
     value_of(number, value).map(|value| value as u16)
 }
 
-/// The check of method 6 of two parts joined, from what is known of each; 63
-/// where they have over 65,536 bytes together.
+/// The check of method 6 of two parts joined, from what is known of each; they
+/// have at most 65,536 bytes together.
+///
+/// Refusals: 63.
 pub fn join_6(first: Part<u32>, second: Part<u32>) -> Result<u32, Refusal> {
     let mut value = 0;
     let (first, second) = ((first.check, first.length), (second.check, second.length));
@@ -666,9 +757,13 @@ pub mod codes {
     #[derive(Clone, Copy, Default, PartialEq, Eq, Debug)]
     #[repr(C)]
     pub struct Station {
+        /// The number of the next block.
         pub next: u8,
+        /// How many blocks are stored.
         pub stored: u8,
+        /// The cell of the next block.
         pub cell: u8,
+        /// The length of the block in each cell.
         pub lengths: [u16; 7],
         pub method: u8,
         pub former: u8,

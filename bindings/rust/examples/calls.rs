@@ -3,9 +3,6 @@
 //! while one is on the way, spreads a text over a line, replays a recorded line, joins the checks of two parts and
 //! writes a fixed block.
 
-#[allow(dead_code)]
-mod corridor;
-
 use corridor::{Arrival, BlockMethod, Code, Degree, EndSign, FrameMethod, Link, Parity, Part};
 use corridor::{CyclicMethod, Receiver, Refusal, Shape, Station, Told, CELL, RECORD};
 
@@ -25,7 +22,7 @@ const CYCLIC: Link = Link {
 
 fn main() {
     if let Err(refusal) = run() {
-        eprintln!("refused {} {}", refusal.number, refusal.value);
+        eprintln!("{refusal}");
         std::process::exit(1);
     }
 }
