@@ -530,6 +530,7 @@ uint32_t corridor_replay_service(uint8_t n, uint8_t w,
  *
  * Returns 0:     *value is the length of the block in bytes
  * Otherwise *value is the value named here, else 0:
+ *    1  the degree is none of the three
  *   64  no content byte
  *   65  the block, its check included, would be over its length: 16, 16 or
  *       256 bytes
@@ -548,6 +549,7 @@ uint32_t corridor_write_fixed(uint8_t degree,
  *
  * Returns 0:     *value is the length of the content in bytes
  * Otherwise *value is the value named here, else 0:
+ *    1  the degree is none of the three
  *   64  no content byte beside the check
  *   65  the block is over its length
  *   18  the check is not that of the content

@@ -111,6 +111,11 @@ fn main() -> ExitCode {
         println!("NEVER MET: {missing:?}");
         return ExitCode::FAILURE;
     }
+    let strange = judge.tally.strange();
+    if !strange.is_empty() {
+        println!("NO NUMBER OF THE CALL: {strange:?}");
+        return ExitCode::FAILURE;
+    }
     println!("{} calls compared, no difference", judge.tally.total());
     ExitCode::SUCCESS
 }

@@ -116,6 +116,18 @@ impl Tally {
         missing
     }
 
+    /// The numbers that a call answered and that are not its own; 1, a code
+    /// outside its list, belongs to every call.
+    pub fn strange(&self) -> Vec<(Call, usize)> {
+        let mut strange = Vec::new();
+        for (call, _, _) in CALLS {
+            let own = questions(call);
+            let others = (2..NUMBERS).filter(|number| !own.contains(number));
+            strange.extend(others.filter(|n| self.met(call, *n) > 0).map(|n| (call, n)));
+        }
+        strange
+    }
+
     /// Prints a table for each call: a line for each answer number met, a
     /// column for each method.
     pub fn print(&self) {
