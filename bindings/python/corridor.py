@@ -316,7 +316,13 @@ def _call(name, *arguments):
             given += [bytes(argument), len(argument)]
         else:
             given.append(argument)
-    return getattr(library(), "corridor_" + name)(*given)
+    call = getattr(library(), "corridor_" + name)
+    for argument, kind in zip(given, call.argtypes):
+        # the machine would cut it off without a word
+        limit = 1 << 8 * ctypes.sizeof(kind)
+        if isinstance(argument, int) and not 0 <= argument < limit:
+            raise ValueError("%d is not from 0 to %d" % (argument, limit - 1))
+    return call(*given)
 
 
 def _with_output(name, room, *arguments):
