@@ -228,10 +228,6 @@ class Lent:
     def __bytes__(self):
         return self.array.raw[: self.room]
 
-    def untouched(self, start=0):
-        rest = bytes(self)[start:]
-        return rest == self.FILL * len(rest)
-
 
 class Store(Lent):
     """The store of a sending station, a cell for each of w blocks."""
@@ -307,11 +303,13 @@ def library():
 
 
 def _call(name, *arguments):
-    """The result of a call. Bytes and Lent stand for a pointer and a length."""
-    given = []
+    """The result of a call. Bytes and Lent stand for a pointer and a length;
+    after a refusal what is lent has to be as it was."""
+    given, before = [], []
     for argument in arguments:
         if isinstance(argument, Lent):
             given += [argument.array, argument.room]
+            before.append((argument, bytes(argument)))
         elif isinstance(argument, (bytes, bytearray)):
             given += [bytes(argument), len(argument)]
         else:
@@ -322,17 +320,17 @@ def _call(name, *arguments):
         limit = 1 << 8 * ctypes.sizeof(kind)
         if isinstance(argument, int) and not 0 <= argument < limit:
             raise ValueError("%d is not from 0 to %d" % (argument, limit - 1))
-    return call(*given)
+    result = call(*given)
+    if result != 0 and any(bytes(lent) != was for lent, was in before):
+        raise AssertionError("corridor_%s refused and altered what is lent" % name)
+    return result
 
 
 def _with_output(name, room, *arguments):
-    """Number, value and output of a call that has its output last but for one
-    value. What the output may not lose is compared."""
+    """Number, value and output of a call whose last arguments they are."""
     out, value = Lent(room), SIZE()
     number = _call(name, *arguments, out, ctypes.byref(value))
-    if number != 0 and not out.untouched():
-        raise AssertionError("corridor_%s refused and altered its output" % name)
-    return number, value.value, out
+    return number, value.value, bytes(out)
 
 
 # --- the numbers
@@ -381,8 +379,6 @@ def read_block(link, line, room=None):
     answer = (SIZE * 5)()
     number = _call("read_block", *link, line, out, answer)
     if number != 0:
-        if not out.untouched():
-            raise AssertionError("corridor_read_block refused and altered its output")
         return Refused(number, answer[0], "read_block")
     shape, end_sign, header, text, counted = answer
     found = bytes(out)
@@ -403,7 +399,7 @@ def write_block(link, shape, end_sign, header=b"", text=b"", room=None):
     )
     if number != 0:
         return Refused(number, value, "write_block")
-    return Written(bytes(out)[:value])
+    return Written(out[:value])
 
 
 # --- frames
@@ -415,7 +411,7 @@ def read_frame(method, bits, lent, room=None):
     number, value, out = _with_output("read_frame", room, method, bits, lent)
     if number != 0:
         return Refused(number, value, "read_frame")
-    return Content(bytes(out)[:value])
+    return Content(out[:value])
 
 
 def write_frame(method, content, room=None):
@@ -424,7 +420,7 @@ def write_frame(method, content, room=None):
     number, value, out = _with_output("write_frame", room, method, content)
     if number != 0:
         return Refused(number, value, "write_frame")
-    return Framed(value, bytes(out)[: (value + 7) // 8])
+    return Framed(value, out[: (value + 7) // 8])
 
 
 # --- numbers and the sender
@@ -517,7 +513,7 @@ def write_fixed(degree, content, room=None):
     number, value, out = _with_output("write_fixed", room, degree, content)
     if number != 0:
         return Refused(number, value, "write_fixed")
-    return Written(bytes(out)[:value])
+    return Written(out[:value])
 
 
 def read_fixed(degree, block, room=None):
@@ -526,7 +522,7 @@ def read_fixed(degree, block, room=None):
     number, value, out = _with_output("read_fixed", room, degree, block)
     if number != 0:
         return Refused(number, value, "read_fixed")
-    return Content(bytes(out)[:value])
+    return Content(out[:value])
 
 
 # --- checks

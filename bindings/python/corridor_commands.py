@@ -79,6 +79,20 @@ def with_letters(name, data):
     return line + "  %s" % letters if readable else line
 
 
+def line_of(answer):
+    """Prints the line of a success."""
+    if answer:
+        print(shown(answer.line))
+    return answer
+
+
+def content_of(name, answer):
+    """Prints the content of a success."""
+    if answer:
+        print(with_letters(name, answer.content))
+    return answer
+
+
 # --- commands
 
 
@@ -104,10 +118,7 @@ def write(given):
         start = 3 if header else 2
         shape = start + 2 if given.clear else start
     link, end_sign = link_of(given.settings), one_byte(given.end)
-    answer = corridor.write_block(link, shape, end_sign, header, text)
-    if answer:
-        print(shown(answer.line))
-    return answer
+    return line_of(corridor.write_block(link, shape, end_sign, header, text))
 
 
 def damage(given):
@@ -132,9 +143,7 @@ def frame(given):
 
 def read_frame(given):
     answer = corridor.read_frame(given.method, *frame_of(given.words))
-    if answer:
-        print(with_letters("content", answer.content))
-    return answer
+    return content_of("content", answer)
 
 
 def number(given):
@@ -175,31 +184,21 @@ def replay(given):
 
 
 def interleave(given):
-    answer = corridor.interleave(given.d, bytes_of(given.bytes, given.text))
-    if answer:
-        print(shown(answer.line))
-    return answer
+    return line_of(corridor.interleave(given.d, bytes_of(given.bytes, given.text)))
 
 
 def deinterleave(given):
-    answer = corridor.deinterleave(given.d, bytes_of(given.bytes))
-    if answer:
-        print(with_letters("text", answer.content))
-    return answer
+    return content_of("text", corridor.deinterleave(given.d, bytes_of(given.bytes)))
 
 
 def fixed(given):
-    answer = corridor.write_fixed(given.degree, bytes_of(given.bytes, given.text))
-    if answer:
-        print(shown(answer.line))
-    return answer
+    content = bytes_of(given.bytes, given.text)
+    return line_of(corridor.write_fixed(given.degree, content))
 
 
 def read_fixed(given):
-    answer = corridor.read_fixed(given.degree, bytes_of(given.bytes))
-    if answer:
-        print(with_letters("content", answer.content))
-    return answer
+    block = bytes_of(given.bytes)
+    return content_of("content", corridor.read_fixed(given.degree, block))
 
 
 def digits(method):

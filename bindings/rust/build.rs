@@ -16,6 +16,8 @@ fn main() {
         );
         return;
     }
+    // a relative folder is the package's, and rustc may run elsewhere
+    let folder = folder.canonicalize().unwrap_or(folder);
     println!("cargo::rerun-if-changed={}", library.display());
     println!("cargo::rustc-link-search=native={}", folder.display());
     println!("cargo::rustc-link-lib=static=corridor");
