@@ -6,8 +6,8 @@
 //!
 //! `--seed` starts the generated cases elsewhere, `--cases` sets the rounds of
 //! generated cases. The program prints what it tried by stage, by call and by
-//! answer number, and ends with 1 on the first difference or where a number of
-//! document 01 was never met.
+//! answer number, and ends with 1 on the first difference, where a number of
+//! document 01 was never met, or where a call answered another's number.
 
 mod claims;
 #[allow(dead_code, unused_attributes)]
