@@ -238,23 +238,25 @@ pub fn python(path: &str) -> BTreeMap<String, Vec<String>> {
         let Some((name, kinds)) = entry.split_once(": (") else {
             continue;
         };
-        let types = kinds.split(',').flat_map(|kind| match kind.trim() {
-            "*IN" => vec!["*const u8", "usize"],
-            "*OUT" => vec!["*mut u8", "usize"],
-            "U8" => vec!["u8"],
-            "U16" => vec!["u16"],
-            "U32" => vec!["u32"],
-            "SIZE" => vec!["usize"],
-            "SIZES" => vec!["*mut usize"],
-            "BYTES" => vec!["*mut u8"],
-            "STATION" => vec!["*mut station"],
-            "" => vec![],
-            other => panic!("{path}: {name} takes {other}"),
-        });
-        let types = types.map(str::to_string).collect();
-        found.insert(name.trim().trim_matches('"').to_string(), types);
+        let types = kinds.split(',').flat_map(|kind| python_types(kind.trim()));
+        found.insert(name.trim().trim_matches('"').to_string(), types.collect());
     }
     found
+}
+
+/// The types that a name of the Python table stands for; a record has its own.
+fn python_types(kind: &str) -> Vec<String> {
+    let types: &[&str] = match kind {
+        "*IN" => &["*const u8", "usize"],
+        "*OUT" => &["*mut u8", "usize"],
+        "U8" | "U16" | "U32" => return vec![kind.to_lowercase()],
+        "SIZE" => &["usize"],
+        "SIZES" => &["*mut usize"],
+        "BYTES" => &["*mut u8"],
+        "" => &[],
+        record => return vec![format!("*mut {}", record.to_lowercase())],
+    };
+    types.iter().map(|name| name.to_string()).collect()
 }
 
 /// A number as C, Rust or Python writes it.
