@@ -431,7 +431,7 @@ uint32_t corridor_tell_order(corridor_receiver *receiver, uint8_t number,
  * Otherwise answer[0] is 0, answer[1] the place or the bytes needed of a
  * refused line (else 0), and zeros; record and out are as they were:
  *   41, 51, 42, 43  as for corridor_tell_order
- *   11, 13 to 15, 52, 53, 17 to 19   as for corridor_read_block
+ *   11, 13, 14, 15, 52, 53, 17, 18, 19  as for corridor_read_block
  */
 uint32_t corridor_tell_block(corridor_receiver *receiver, uint8_t number,
                              const uint8_t *line, size_t line_length,

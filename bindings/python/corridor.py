@@ -70,8 +70,8 @@ LOST = 3
 # Limits.
 LONGEST_LINE = 16384
 LONGEST_COUNT = 4096
-LONGEST_CONTENT_16 = 4096
-LONGEST_CONTENT_32 = 65536
+LONGEST_CONTENT_16 = 32768
+LONGEST_CONTENT_32 = 524288
 LONGEST_FIXED_8 = 16
 LONGEST_FIXED_16 = 16
 LONGEST_FIXED_24 = 256
@@ -124,7 +124,8 @@ class Taken:
 
 @dataclass(frozen=True)
 class Written:
-    """The line of a block, a fixed block, or an interleaved text."""
+    """The line of a block, also of a stored one, a fixed block, or an
+    interleaved text."""
 
     line: bytes
 
@@ -138,8 +139,16 @@ class Framed:
 
 
 @dataclass(frozen=True)
+class FrameContent:
+    """The content of a frame: how many bits, and the bytes that hold them."""
+
+    bits: int
+    content: bytes
+
+
+@dataclass(frozen=True)
 class Content:
-    """The content of a frame or a fixed block, or the text of a line."""
+    """The content of a fixed block, or the text of a line."""
 
     content: bytes
 
@@ -164,6 +173,27 @@ class Freed:
     """How many blocks an acknowledgement freed."""
 
     count: int
+
+
+@dataclass(frozen=True)
+class Ordered:
+    """The number of an order: that of the first block under its method."""
+
+    number: int
+
+
+@dataclass(frozen=True)
+class Noted:
+    """The receiver has the order."""
+
+
+@dataclass(frozen=True)
+class Told:
+    """What a block's number told the receiver: NEW, REPEAT or LOST; and of a
+    new block, what its line held."""
+
+    arrival: int
+    block: Taken = None
 
 
 @dataclass(frozen=True)
@@ -195,24 +225,50 @@ class Link(NamedTuple):
     code: int = KOI7
 
 
-class Station(ctypes.Structure):
-    """The record of a sending station: fresh, and altered by the calls."""
+class Kept(ctypes.Structure):
+    """A record that a station keeps: fresh, and altered by the calls."""
+
+    def values(self):
+        """The fields by their names."""
+        fields = {name: getattr(self, name) for name, _ in self._fields_}
+        for name, value in fields.items():
+            if isinstance(value, ctypes.Array):
+                fields[name] = tuple(value)
+        return fields
+
+    def __eq__(self, other):
+        return type(other) is type(self) and self.values() == other.values()
+
+    def __repr__(self):
+        fields = ", ".join("%s=%r" % pair for pair in self.values().items())
+        return "%s(%s)" % (type(self).__name__, fields)
+
+
+class Station(Kept):
+    """The record of a sending station."""
 
     _fields_ = [
         ("next", ctypes.c_uint8),
         ("stored", ctypes.c_uint8),
         ("cell", ctypes.c_uint8),
         ("lengths", ctypes.c_uint16 * 7),
+        ("method", ctypes.c_uint8),
+        ("former", ctypes.c_uint8),
+        ("older", ctypes.c_uint8),
     ]
 
-    def values(self):
-        return self.next, self.stored, self.cell, tuple(self.lengths)
 
-    def __eq__(self, other):
-        return isinstance(other, Station) and self.values() == other.values()
+class Receiver(Kept):
+    """The record of a receiving station: Receiver(n, w) is a fresh one."""
 
-    def __repr__(self):
-        return "Station(next=%d, stored=%d, cell=%d, lengths=%r)" % self.values()
+    _fields_ = [
+        ("n", ctypes.c_uint8),
+        ("w", ctypes.c_uint8),
+        ("c", ctypes.c_uint8),
+        ("method", ctypes.c_uint8),
+        ("waiting", ctypes.c_uint8),
+        ("number", ctypes.c_uint8),
+    ]
 
 
 class Lent:
@@ -245,6 +301,8 @@ SIZE = ctypes.c_size_t
 SIZES = ctypes.POINTER(SIZE)
 BYTES = ctypes.POINTER(U8)
 STATION = ctypes.POINTER(Station)
+CONST_STATION = STATION  # a record that the call only reads
+RECEIVER = ctypes.POINTER(Receiver)
 IN = (ctypes.c_char_p, SIZE)
 OUT = (ctypes.POINTER(ctypes.c_char), SIZE)
 
@@ -253,10 +311,14 @@ CALLS = {
     "read_block": (U32, U8, U8, U8, *IN, *OUT, SIZES),
     "write_block": (U32, U8, U8, U8, U8, U8, *IN, *IN, *OUT, SIZES),
     "read_frame": (U32, U8, SIZE, *IN, *OUT, SIZES),
-    "write_frame": (U32, U8, *IN, *OUT, SIZES),
+    "write_frame": (U32, U8, SIZE, *IN, *OUT, SIZES),
     "receive": (U32, U8, U8, U8, U8, BYTES),
     "submit": (U32, U8, U8, STATION, *OUT, *IN, SIZES),
     "acknowledge": (U32, U8, U8, STATION, *IN, U8, SIZES),
+    "order": (U32, U8, U8, STATION, U8, SIZES),
+    "send": (U32, U8, U8, CONST_STATION, *IN, U8, *OUT, SIZES),
+    "tell_order": (U32, RECEIVER, U8, U8),
+    "tell_block": (U32, RECEIVER, U8, *IN, *OUT, SIZES),
     "interleave": (U32, SIZE, *IN, *OUT),
     "deinterleave": (U32, SIZE, *IN, *OUT),
     "replay_panel": (U32, U8, U8, *IN, *OUT, STATION, BYTES, SIZES),
@@ -304,7 +366,7 @@ def library():
 
 def _call(name, *arguments):
     """The result of a call. Bytes and Lent stand for a pointer and a length;
-    after a refusal what is lent has to be as it was."""
+    after a refusal what is lent, also a record, has to be as it was."""
     given, before = [], []
     for argument in arguments:
         if isinstance(argument, Lent):
@@ -314,6 +376,8 @@ def _call(name, *arguments):
             given += [bytes(argument), len(argument)]
         else:
             given.append(argument)
+        if isinstance(argument, Kept):
+            before.append((argument, bytes(argument)))
     call = getattr(library(), "corridor_" + name)
     for argument, kind in zip(given, call.argtypes):
         # the machine would cut it off without a word
@@ -353,7 +417,8 @@ def _calls_of(heading):
 @lru_cache(maxsize=None)
 def questions():
     """By call and number, the question and what the value is: the tables of
-    docs/NUMBERS.md, in the order in which each call asks."""
+    docs/NUMBERS.md, in the order in which each call asks. Of a number that a
+    call gives to two questions, both."""
     path = _first("NUMBERS.md", "it is in docs", HERE, REPOSITORY / "docs")
     tables, calls, before = {call: {} for call in [*CALLS, CODES]}, [], {}
     for line in path.read_text(encoding="utf-8").splitlines():
@@ -365,12 +430,21 @@ def questions():
         for number in map(int, row[1].split(", ")):
             meant = before[number] if row[2] == "as above" else row.group(2, 3)
             before[number] = meant
-            for call in calls:
-                tables[call][number] = meant
+            for table in (tables[call] for call in calls):
+                first, carries = table.get(number, meant)
+                both = first if meant[0] == first else "%s Or: %s" % (first, meant[0])
+                table[number] = both, carries
     return tables
 
 
 # --- blocks
+
+
+def _taken(answer, out):
+    """The block of an answer: header and text stand in the output."""
+    shape, end_sign, header, text, counted = answer
+    found = bytes(out)
+    return Taken(shape, end_sign, found[:header], found[header : header + text], counted)
 
 
 def read_block(link, line, room=None):
@@ -380,9 +454,7 @@ def read_block(link, line, room=None):
     number = _call("read_block", *link, line, out, answer)
     if number != 0:
         return Refused(number, answer[0], "read_block")
-    shape, end_sign, header, text, counted = answer
-    found = bytes(out)
-    return Taken(shape, end_sign, found[:header], found[header : header + text], counted)
+    return _taken(answer, out)
 
 
 def write_block(link, shape, end_sign, header=b"", text=b"", room=None):
@@ -405,25 +477,32 @@ def write_block(link, shape, end_sign, header=b"", text=b"", room=None):
 # --- frames
 
 
+def holding(bits):
+    """How many bytes so many bits take."""
+    return (bits + 7) // 8
+
+
 def read_frame(method, bits, lent, room=None):
-    """Content, or Refused. The output has `room` bytes, else enough."""
+    """FrameContent, or Refused. The output has `room` bytes, else enough."""
     room = len(lent) if room is None else room
     number, value, out = _with_output("read_frame", room, method, bits, lent)
     if number != 0:
         return Refused(number, value, "read_frame")
-    return Content(out[:value])
+    return FrameContent(value, out[: holding(value)])
 
 
-def write_frame(method, content, room=None):
-    """Framed, or Refused. The output has `room` bytes, else enough."""
+def write_frame(method, content, bits=None, room=None):
+    """Framed, or Refused. The content has `bits` bits, else all of its bytes;
+    the output has `room` bytes, else enough."""
+    bits = 8 * len(content) if bits is None else bits
     room = 2 * len(content) + 16 if room is None else room
-    number, value, out = _with_output("write_frame", room, method, content)
+    number, value, out = _with_output("write_frame", room, method, bits, content)
     if number != 0:
         return Refused(number, value, "write_frame")
-    return Framed(value, out[: (value + 7) // 8])
+    return Framed(value, out[: holding(value)])
 
 
-# --- numbers and the sender
+# --- numbers, the sender and the receiver
 
 
 def receive(n, w, c, received):
@@ -451,6 +530,42 @@ def acknowledge(n, w, station, store, named):
     if number != 0:
         return Refused(number, value.value, "acknowledge")
     return Freed(value.value)
+
+
+def order(n, w, station, method):
+    """Ordered, or Refused; the record is altered."""
+    value = SIZE()
+    number = _call("order", n, w, station, method, ctypes.byref(value))
+    if number != 0:
+        return Refused(number, value.value, "order")
+    return Ordered(value.value)
+
+
+def send(n, w, station, store, named, room=None):
+    """Written, or Refused. The output has `room` bytes, else enough."""
+    room = 2 * LONGEST_STORED + 6 if room is None else room
+    number, value, out = _with_output("send", room, n, w, station, store, named)
+    if number != 0:
+        return Refused(number, value, "send")
+    return Written(out[:value])
+
+
+def tell_order(receiver, number, method):
+    """Noted, or Refused; the record is altered."""
+    refused = _call("tell_order", receiver, number, method)
+    return Refused(refused, 0, "tell_order") if refused else Noted()
+
+
+def tell_block(receiver, number, line, room=None):
+    """Told, or Refused; the record is altered. The output has `room` bytes,
+    else enough."""
+    out = Lent(len(line) if room is None else room)
+    answer = (SIZE * 6)()
+    refused = _call("tell_block", receiver, number, line, out, answer)
+    if refused != 0:
+        return Refused(refused, answer[1], "tell_block")
+    arrival, *block = answer
+    return Told(arrival, _taken(block, out) if arrival == NEW else None)
 
 
 # --- interleaving
@@ -486,7 +601,7 @@ def replay_panel(n, w, trace, store=None):
     """Replayed, or Refused."""
     store = Store(w) if store is None else store
     station, c, value = Station(), U8(), SIZE()
-    end = (ctypes.byref(station), ctypes.byref(c), ctypes.byref(value))
+    end = (station, ctypes.byref(c), ctypes.byref(value))
     number = _call("replay_panel", n, w, trace, store, *end)
     if number != 0:
         return Refused(number, value.value, "replay_panel")
@@ -497,7 +612,7 @@ def replay_service(n, w, trace, store=None):
     """Replayed with notes, or Refused."""
     store = Store(w) if store is None else store
     station, c, notes, value = Station(), U8(), (U8 * NOTES)(), SIZE()
-    end = (ctypes.byref(station), ctypes.byref(c), notes, ctypes.byref(value))
+    end = (station, ctypes.byref(c), notes, ctypes.byref(value))
     number = _call("replay_service", n, w, trace, store, *end)
     if number != 0:
         return Refused(number, value.value, "replay_service")

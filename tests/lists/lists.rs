@@ -82,7 +82,7 @@ fn commented(comment: &str) -> Vec<u32> {
     for line in comment.lines() {
         let line = line.trim_start().trim_start_matches('*');
         let words = line.trim_start();
-        refusals |= words.starts_with("Otherwise") || words.starts_with("Returns 0, or:");
+        refusals |= words.starts_with("Otherwise") || words.starts_with("Returns 0, or");
         let indented = (2..=5).contains(&(line.len() - words.len()));
         let listed = words.split("  ").count() > 1;
         if refusals && indented && listed {
@@ -244,7 +244,8 @@ pub fn python(path: &str) -> BTreeMap<String, Vec<String>> {
     found
 }
 
-/// The types that a name of the Python table stands for; a record has its own.
+/// The types that a name of the Python table stands for; a record has its own,
+/// behind CONST where the call only reads it.
 fn python_types(kind: &str) -> Vec<String> {
     let types: &[&str] = match kind {
         "*IN" => &["*const u8", "usize"],
@@ -254,7 +255,13 @@ fn python_types(kind: &str) -> Vec<String> {
         "SIZES" => &["*mut usize"],
         "BYTES" => &["*mut u8"],
         "" => &[],
-        record => return vec![format!("*mut {}", record.to_lowercase())],
+        record => {
+            let (of, name) = match record.strip_prefix("CONST_") {
+                Some(name) => ("const", name),
+                None => ("mut", record),
+            };
+            return vec![format!("*{of} {}", name.to_lowercase())];
+        }
     };
     types.iter().map(|name| name.to_string()).collect()
 }

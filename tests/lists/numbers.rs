@@ -1,9 +1,10 @@
-//! Compares the numbers of every call, its arguments and the constants, in
-//! each place that has them. docs/NUMBERS.md is the list of the numbers,
-//! include/corridor.h that of the calls and constants. Ends with 1 where a
-//! place has one too few, one too many or another order.
+//! Compares the numbers of every call, its arguments, the records and the
+//! constants, in each place that has them. docs/NUMBERS.md is the list of the
+//! numbers, include/corridor.h that of all others. Ends with 1 where a place
+//! has one too few, one too many or another order.
 
 mod lists;
+mod records;
 
 use lists::{Call, Numbers};
 use std::collections::{BTreeMap, BTreeSet};
@@ -18,7 +19,7 @@ const PYTHON: &str = "bindings/python/corridor.py";
 const PEER: &str = "tests/peer/tally.rs";
 
 /// The enums of the wrapper, each with its constants of the header.
-const ENUMS: [(&str, &[&str]); 7] = [
+const ENUMS: [(&str, &[&str]); 8] = [
     (
         "BlockMethod",
         &[
@@ -30,6 +31,7 @@ const ENUMS: [(&str, &[&str]); 7] = [
         ],
     ),
     ("FrameMethod", &["FRAME_16", "FRAME_32"]),
+    ("CyclicMethod", &["CYCLIC", "CYCLIC_ALTERNATIVE"]),
     ("Degree", &["DEGREE_8", "DEGREE_16", "DEGREE_24"]),
     ("Parity", &["EVEN", "ODD"]),
     ("Code", &["KOI7", "DKOI"]),
@@ -78,6 +80,7 @@ fn main() -> ExitCode {
     let mut differences = Differences::default();
     numbers(&mut differences, &listed, &calls);
     arguments(&mut differences, &calls);
+    records(&mut differences);
     constants(&mut differences);
     let (compared, calls) = (differences.compared, calls.len());
     let alike = if differences.found == 0 { "yes" } else { "no" };
@@ -148,6 +151,20 @@ fn arguments(differences: &mut Differences, calls: &[Call]) {
     for call in calls {
         let tested = tests.contains(&format!("#[test]\nfn {}() {{", call.name));
         differences.compare(WRAPPER_TESTS, &call.name, tested, true);
+    }
+}
+
+/// The fields of each record, in their order.
+fn records(differences: &mut Differences) {
+    let due = records::header(HEADER);
+    for (place, has) in [
+        (WRAPPER, records::wrapper(WRAPPER)),
+        (PYTHON, records::python(PYTHON)),
+    ] {
+        let names: BTreeSet<_> = due.keys().chain(has.keys()).collect();
+        for name in names {
+            differences.compare(place, name, has.get(name), due.get(name));
+        }
     }
 }
 

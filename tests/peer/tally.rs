@@ -60,7 +60,7 @@ fn questions(call: Call) -> &'static [usize] {
         Call::WriteFixed => &[1, 64, 65, 6],
         Call::ReadFixed => &[1, 64, 65, 18, 19],
         Call::Order => &[1, 41, 51, 67],
-        Call::Send => &[41, 51, 6, 56],
+        Call::Send => &[41, 51, 6, 56, 6],
         Call::TellOrder => &[1, 41, 51, 42, 43, 67],
         Call::TellBlock => &[41, 51, 42, 43, 11, 13, 14, 15, 52, 53, 17, 18, 19],
     }

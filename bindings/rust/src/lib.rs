@@ -341,6 +341,11 @@ impl Station {
     pub fn fresh() -> Station {
         Station::default()
     }
+
+    /// How many of the stored blocks are from before the last order.
+    pub fn older(&self) -> u8 {
+        self.0.older
+    }
 }
 
 /// Takes a block into the store, which has `window` cells of [`CELL`] bytes,
@@ -384,8 +389,21 @@ pub enum CyclicMethod {
     CyclicAlternative = 4,
 }
 
+impl CyclicMethod {
+    /// The method that a record keeps; 0 stands for that of a fresh station.
+    fn of_code(code: u8) -> CyclicMethod {
+        match code {
+            3 => CyclicMethod::Cyclic,
+            0 | 4 => CyclicMethod::CyclicAlternative,
+            _ => unreachable!("the library keeps method {code}"),
+        }
+    }
+}
+
 /// Puts later submissions under another method, and gives the order's number,
 /// the next that is given: the receiver is told both.
+///
+/// Refusals: 41, 51, 67.
 pub fn order(
     (n, window): (u8, u8),
     station: &mut Station,
@@ -397,7 +415,9 @@ pub fn order(
 }
 
 /// Writes the line of a stored block to the start of `out`, under the block's
-/// own method, and gives its length.
+/// own method, and gives its length. 6 is asked of the store, then of `out`.
+///
+/// Refusals: 41, 51, 6, 56, 6.
 pub fn send(
     (n, window): (u8, u8),
     station: &Station,
@@ -429,27 +449,49 @@ impl Receiver {
     pub fn awaited(&self) -> u8 {
         self.0.c
     }
+
+    /// The method of the blocks read.
+    pub fn method(&self) -> CyclicMethod {
+        CyclicMethod::of_code(self.0.method)
+    }
+
+    /// The method of an order that waits.
+    pub fn waiting(&self) -> Option<CyclicMethod> {
+        match self.0.waiting {
+            0 => None,
+            code => Some(CyclicMethod::of_code(code)),
+        }
+    }
 }
 
 /// What a block's number told, and of a new block what its line held.
 #[derive(Clone, Copy, PartialEq, Eq, Debug)]
 pub enum Told {
+    /// The awaited block, whose line was taken.
     New(Block),
+    /// One of those before it; its line is not read.
     Repeat,
+    /// A later one: blocks between were lost, and its line is not read.
     Lost,
 }
 
-/// Tells the receiver an order with its number.
+/// Tells the receiver an order with its number: the first block under the
+/// order's method. After a refusal the record is as it was.
+///
+/// Refusals: 41, 51, 42, 43, 67.
 pub fn tell_order(
     receiver: &mut Receiver,
     number: u8,
     method: CyclicMethod,
 ) -> Result<(), Refusal> {
-    value_of(codes::tell_order(&mut receiver.0, number, method as u8), 0).map(|_| ())
+    let number = codes::tell_order(&mut receiver.0, number, method as u8);
+    value_of(number, 0).map(|_| ())
 }
 
 /// Tells the receiver a block's number beside its line. Header and text of a
-/// new block go to the start of `out`.
+/// new block go to the start of `out`. After a refusal the record is as it was.
+///
+/// Refusals: 41, 51, 42, 43, 11, 13, 14, 15, 52, 53, 17, 18, 19.
 pub fn tell_block(
     receiver: &mut Receiver,
     number: u8,
@@ -765,8 +807,11 @@ pub mod codes {
         pub cell: u8,
         /// The length of the block in each cell.
         pub lengths: [u16; 7],
+        /// The method of the last order, or 0.
         pub method: u8,
+        /// The one before it, or 0.
         pub former: u8,
+        /// How many stored blocks are from before the last order.
         pub older: u8,
     }
 
@@ -843,11 +888,17 @@ pub mod codes {
     #[derive(Clone, Copy, Default, PartialEq, Eq, Debug)]
     #[repr(C)]
     pub struct Receiver {
+        /// Sequence numbers run modulo 2^n.
         pub n: u8,
+        /// The link's window.
         pub w: u8,
+        /// The awaited number.
         pub c: u8,
+        /// The method of the blocks read, or 0.
         pub method: u8,
+        /// The method of an order that waits, or 0.
         pub waiting: u8,
+        /// The number of the first block under it.
         pub number: u8,
     }
 
