@@ -141,8 +141,8 @@ fn row(name: &str, cells: impl Iterator<Item = String>) {
 /// A content of two bytes under the 16-bit check.
 fn frame() -> Result<(), Refusal> {
     let (method, content, mut lent) = (FrameMethod::Cyclic16, [0x37, 0xFF], [0; 8]);
-    let bits = corridor::write_frame(method, &content, &mut lent)?;
     let mut left = 8 * content.len();
+    let bits = corridor::write_frame(method, left, &content, &mut lent)?;
     let mut places = Vec::new();
     for place in 0..bits {
         lent[place / 8] ^= 1 << (place % 8);

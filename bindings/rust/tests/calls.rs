@@ -3,8 +3,9 @@
 //! lent output holds what it held before. `tests/compare` compares the calls
 //! with an independent implementation at length.
 
-use corridor::{codes, Arrival, BlockMethod, Code, Degree, EndSign, FrameMethod, Link, Parity};
-use corridor::{Part, Refusal, Shape, Station, CELL, RECORD};
+use corridor::{codes, Arrival, Block, BlockMethod, Code, CyclicMethod, Degree, EndSign};
+use corridor::{FrameMethod, Link, Parity, Part, Receiver, Refusal, Shape, Station, Told};
+use corridor::{CELL, RECORD};
 
 /// The digits whose check a catalogue gives.
 const DIGITS: &[u8] = b"123456789";
@@ -90,22 +91,32 @@ const FRAME: [u8; 6] = [0x7E, 0xDF, 0x01, 0xBE, 0xFB, 0x01];
 #[test]
 fn write_frame() {
     let mut lent = [0xEE; 7];
-    let written = corridor::write_frame(FrameMethod::Cyclic16, &[0xFF], &mut lent);
+    let written = corridor::write_frame(FrameMethod::Cyclic16, 8, &[0xFF], &mut lent);
     assert_eq!((written, &lent[..6]), (Ok(42), &FRAME[..]));
     assert_eq!(lent[6], 0xEE);
 
+    // what stands behind the claimed bits is no part of the content
+    let mut other = [0xEE; 7];
+    let written = corridor::write_frame(FrameMethod::Cyclic16, 7, &[0x7F], &mut lent);
+    let again = corridor::write_frame(FrameMethod::Cyclic16, 7, &[0xFF, 0xFF], &mut other);
+    assert_eq!((again, other), (written, lent));
+
     let mut short = [0xEE; 5];
-    let written = corridor::write_frame(FrameMethod::Cyclic16, &[0xFF], &mut short);
+    let written = corridor::write_frame(FrameMethod::Cyclic16, 8, &[0xFF], &mut short);
     assert_eq!((written, short), (refused(23, 6), [0xEE; 5]));
-    let written = corridor::write_frame(FrameMethod::Cyclic32, &[], &mut lent);
+    let written = corridor::write_frame(FrameMethod::Cyclic16, 9, &[0xFF], &mut short);
+    assert_eq!((written, short), (refused(66, 0), [0xEE; 5]));
+    let written = corridor::write_frame(FrameMethod::Cyclic32, 0, &[], &mut lent);
     assert_eq!(written, refused(21, 0));
+    let written = corridor::write_frame(FrameMethod::Cyclic16, 32_769, &[0; 4_097], &mut lent);
+    assert_eq!(written, refused(22, 0));
 }
 
 #[test]
 fn read_frame() {
     let mut out = [0xEE; 2];
     let read = corridor::read_frame(FrameMethod::Cyclic16, 42, &FRAME, &mut out);
-    assert_eq!((read, out), (Ok(1), [0xFF, 0xEE]));
+    assert_eq!((read, out), (Ok(8), [0xFF, 0xEE]));
 
     let mut out = [0xEE; 1];
     let read = corridor::read_frame(FrameMethod::Cyclic16, 49, &FRAME, &mut out);
@@ -116,15 +127,21 @@ fn read_frame() {
     assert_eq!(read, refused(33, 13));
     let read = corridor::read_frame(FrameMethod::Cyclic16, 42, &FRAME, &mut []);
     assert_eq!(read, refused(38, 1));
+
+    // a content that ends inside a byte
+    let (mut lent, mut out) = ([0; 12], [0xEE; 3]);
+    let bits = corridor::write_frame(FrameMethod::Cyclic32, 9, &[0x41, 0xFF], &mut lent).unwrap();
+    let read = corridor::read_frame(FrameMethod::Cyclic32, bits, &lent, &mut out);
+    assert_eq!((read, out), (Ok(9), [0x41, 0x01, 0xEE]));
 }
 
 #[test]
 fn longest_frame() {
-    let longest = corridor::longest_frame(FrameMethod::Cyclic16, 2);
+    let longest = corridor::longest_frame(FrameMethod::Cyclic16, 16);
     let mut lent = [0; 7];
-    let written = corridor::write_frame(FrameMethod::Cyclic16, &[0xFF, 0xFF], &mut lent);
+    let written = corridor::write_frame(FrameMethod::Cyclic16, 16, &[0xFF, 0xFF], &mut lent);
     assert_eq!((written, longest), (Ok(54), 54));
-    assert_eq!(corridor::longest_frame(FrameMethod::Cyclic32, 2), 73);
+    assert_eq!(corridor::longest_frame(FrameMethod::Cyclic32, 16), 73);
 }
 
 #[test]
@@ -170,6 +187,138 @@ fn acknowledge() {
     assert_eq!(freed, Ok(2));
     let submitted = corridor::submit(NUMBERS, &mut station, &mut store, b"8A 03");
     assert_eq!(submitted, Ok(2));
+}
+
+#[test]
+fn order() {
+    let (mut station, mut store) = (Station::fresh(), vec![0; 2 * CELL]);
+    corridor::submit(NUMBERS, &mut station, &mut store, b"7B 12").unwrap();
+    let ordered = corridor::order(NUMBERS, &mut station, CyclicMethod::Cyclic);
+    assert_eq!((ordered, station.older()), (Ok(1), 1));
+
+    let before = station;
+    let ordered = corridor::order(NUMBERS, &mut station, CyclicMethod::CyclicAlternative);
+    assert_eq!((ordered, station), (refused(67, 0), before));
+    let ordered = corridor::order((8, 2), &mut station, CyclicMethod::Cyclic);
+    assert_eq!((ordered, station), (refused(41, 0), before));
+    let ordered = corridor::order((3, 0), &mut station, CyclicMethod::Cyclic);
+    assert_eq!((ordered, station), (refused(51, 0), before));
+    corridor::acknowledge(NUMBERS, &mut station, &store, 0).unwrap();
+    let ordered = corridor::order(NUMBERS, &mut station, CyclicMethod::CyclicAlternative);
+    assert_eq!((ordered, station.older()), (Ok(1), 0));
+}
+
+/// The line of a block without DLE, as clear text with ETX.
+fn clear_line(block: &[u8], check: fn(&[u8]) -> u16) -> Vec<u8> {
+    let counted = [block, &[0x03]].concat();
+    let check = check(&counted).to_le_bytes();
+    [&[0x10, 0x02], block, &[0x10, 0x03], &check].concat()
+}
+
+/// A block under method 4, and one under method 3.
+fn two_methods() -> (Station, Vec<u8>) {
+    let (mut station, mut store) = (Station::fresh(), vec![0; 2 * CELL]);
+    corridor::submit(NUMBERS, &mut station, &mut store, b"7B 12").unwrap();
+    corridor::order(NUMBERS, &mut station, CyclicMethod::Cyclic).unwrap();
+    corridor::submit(NUMBERS, &mut station, &mut store, b"8A 03").unwrap();
+    (station, store)
+}
+
+#[test]
+fn send() {
+    let (station, store) = two_methods();
+    let mut line = [0xEE; 12];
+    let length = corridor::send(NUMBERS, &station, &store, 0, &mut line);
+    assert_eq!(length, Ok(11));
+    assert_eq!(line[..11], clear_line(b"7B 12", corridor::check_4));
+    assert_eq!(line[11], 0xEE);
+    let length = corridor::send(NUMBERS, &station, &store, 1, &mut line);
+    assert_eq!(length, Ok(11));
+    assert_eq!(line[..11], clear_line(b"8A 03", corridor::check_3));
+
+    let mut short = [0xEE; 10];
+    let length = corridor::send(NUMBERS, &station, &store, 1, &mut short);
+    assert_eq!((length, short), (refused(6, 11), [0xEE; 10]));
+    let length = corridor::send(NUMBERS, &station, &store[1..], 1, &mut short);
+    assert_eq!((length, short), (refused(6, 2 * CELL), [0xEE; 10]));
+    let length = corridor::send(NUMBERS, &station, &store, 2, &mut short);
+    assert_eq!((length, short), (refused(56, 0), [0xEE; 10]));
+    let length = corridor::send((0, 2), &station, &store, 1, &mut short);
+    assert_eq!((length, short), (refused(41, 0), [0xEE; 10]));
+    let length = corridor::send((1, 2), &station, &store, 1, &mut short);
+    assert_eq!((length, short), (refused(51, 0), [0xEE; 10]));
+}
+
+#[test]
+fn tell_order() {
+    let mut receiver = Receiver::fresh(NUMBERS);
+    assert_eq!(receiver.method(), CyclicMethod::CyclicAlternative);
+    let told = corridor::tell_order(&mut receiver, 1, CyclicMethod::Cyclic);
+    assert_eq!(
+        (told, receiver.waiting()),
+        (Ok(()), Some(CyclicMethod::Cyclic))
+    );
+    assert_eq!(receiver.method(), CyclicMethod::CyclicAlternative);
+
+    let before = receiver;
+    let told = corridor::tell_order(&mut receiver, 2, CyclicMethod::Cyclic);
+    assert_eq!((told, receiver), (refused(67, 0), before));
+    let told = corridor::tell_order(&mut receiver, 8, CyclicMethod::Cyclic);
+    assert_eq!((told, receiver), (refused(43, 0), before));
+    let told = corridor::tell_order(&mut Receiver::fresh((8, 2)), 0, CyclicMethod::Cyclic);
+    assert_eq!(told, refused(41, 0));
+    let told = corridor::tell_order(&mut Receiver::fresh((3, 8)), 0, CyclicMethod::Cyclic);
+    assert_eq!(told, refused(51, 0));
+
+    // with the awaited number the method changes at once
+    let mut receiver = Receiver::fresh(NUMBERS);
+    let told = corridor::tell_order(&mut receiver, 0, CyclicMethod::Cyclic);
+    assert_eq!((told, receiver.waiting()), (Ok(()), None));
+    assert_eq!(receiver.method(), CyclicMethod::Cyclic);
+}
+
+#[test]
+fn tell_block() {
+    let (first, second) = (
+        clear_line(b"7B 12", corridor::check_4),
+        clear_line(b"8A 03", corridor::check_3),
+    );
+    let (mut receiver, mut out) = (Receiver::fresh(NUMBERS), [0xEE; 6]);
+    corridor::tell_order(&mut receiver, 1, CyclicMethod::Cyclic).unwrap();
+    let taken = Told::New(Block {
+        shape: Shape::ClearText,
+        end_sign: EndSign::Etx,
+        header_length: 0,
+        text_length: 5,
+        counted: 6,
+    });
+
+    // neither a damaged line nor a later number moves the receiver on
+    let before = receiver;
+    let told = corridor::tell_block(&mut receiver, 0, &second, &mut out);
+    assert_eq!((told, receiver, out), (refused(18, 0), before, [0xEE; 6]));
+    let told = corridor::tell_block(&mut receiver, 0, &first[..10], &mut out);
+    assert_eq!((told, receiver, out), (refused(52, 9), before, [0xEE; 6]));
+    let told = corridor::tell_block(&mut receiver, 0, &first, &mut out[..4]);
+    assert_eq!((told, receiver, out), (refused(19, 5), before, [0xEE; 6]));
+    let told = corridor::tell_block(&mut receiver, 1, &second, &mut out);
+    assert_eq!((told, receiver, out), (Ok(Told::Lost), before, [0xEE; 6]));
+    let told = corridor::tell_block(&mut receiver, 8, &first, &mut out);
+    assert_eq!((told, receiver, out), (refused(43, 0), before, [0xEE; 6]));
+
+    let told = corridor::tell_block(&mut receiver, 0, &first, &mut out);
+    assert_eq!(
+        (told, receiver.awaited(), &out),
+        (Ok(taken), 1, b"7B 12\xEE")
+    );
+    assert_eq!(receiver.method(), CyclicMethod::Cyclic);
+    let told = corridor::tell_block(&mut receiver, 0, &first, &mut out);
+    assert_eq!((told, receiver.awaited()), (Ok(Told::Repeat), 1));
+    let told = corridor::tell_block(&mut receiver, 1, &second, &mut out);
+    assert_eq!(
+        (told, receiver.awaited(), &out),
+        (Ok(taken), 2, b"8A 03\xEE")
+    );
 }
 
 #[test]
@@ -322,7 +471,7 @@ fn codes_outside_their_lists() {
     assert_eq!((number, answer), (1, [0; 5]));
     let number = codes::write_block((2, 0, 0), (6, 3), b"", b"", &mut out, &mut value);
     assert_eq!((number, value), (1, 0));
-    let number = codes::write_frame(4, &[0xFF], &mut out, &mut value);
+    let number = codes::write_frame(4, 8, &[0xFF], &mut out, &mut value);
     assert_eq!((number, value), (1, 0));
     let number = codes::read_frame(7, 42, &FRAME, &mut out, &mut value);
     assert_eq!((number, value), (1, 0));
@@ -331,6 +480,14 @@ fn codes_outside_their_lists() {
     let number = codes::read_fixed(0, &[0x31, 0x4A], &mut out, &mut value);
     assert_eq!((number, value), (1, 0));
     assert_eq!(out, [0xEE; 4]);
+
+    let (mut station, mut receiver) = (codes::Station::default(), codes::Receiver::default());
+    let number = codes::order(3, 2, &mut station, 5, &mut value);
+    assert_eq!((number, value), (1, 0));
+    let number = codes::tell_order(&mut receiver, 0, 2);
+    assert_eq!(number, 1);
+    assert_eq!(station, codes::Station::default());
+    assert_eq!(receiver, codes::Receiver::default());
 }
 
 #[test]
