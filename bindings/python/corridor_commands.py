@@ -8,10 +8,16 @@ them from standard input, so that commands can stand in a row:
 
 SETTINGS are the method, 1 to 4 or 7, then e or o for even or odd parity, then
 d where the code is DKOI: 2e, 3o, 3ed. A frame is its number of bits and a
-colon, then the bytes that hold it: 42: 7E DF 01 BE FB 01.
+colon, then the bytes that hold it: 42: 7E DF 01 BE FB 01. So is the content of
+a frame that ends inside a byte: 9: 41 01.
 
-The exit status is 0 for success, 1 for a refusal (send goes on behind one) and
-2 for what is no command.
+The lines that send prints are steps of tell, which is the receiving station:
+
+    python3 -m corridor send 3 2 submit:37 line:0 | grep line |
+        python3 -m corridor tell 3 2
+
+The exit status is 0 for success, 1 for a refusal (send and tell go on behind
+one) and 2 for what is no command.
 """
 
 import argparse
@@ -46,6 +52,22 @@ def bytes_of(given, text=None):
     if text is not None:
         return text.encode("latin-1")
     return bytes(map(one_byte, words(given)))
+
+
+def whole(word):
+    if not word.isdigit():
+        raise Unknown("no whole number: %r" % word)
+    return int(word)
+
+
+def content_of_frame(given, text=None):
+    """Its bytes, and how many bits they are where it says so."""
+    if text is None:
+        given = words(given)
+        if given and given[0].endswith(":"):
+            bits, content = frame_of(given)
+            return content, bits
+    return bytes_of(given, text), None
 
 
 def frame_of(given):
@@ -93,6 +115,19 @@ def content_of(name, answer):
     return answer
 
 
+def block_of(block):
+    """Prints header and text of a block."""
+    for name, data in (("header", block.header), ("text", block.text)):
+        if data:
+            print(with_letters(name, data))
+
+
+def step_of(step, answer, said):
+    """Prints a step and what was answered to it."""
+    refused = "refused %d %d"
+    print("%s: %s" % (step, said if answer else refused % (answer.number, answer.value)))
+
+
 # --- commands
 
 
@@ -102,9 +137,7 @@ def read(given):
         header, text = answer.header, answer.text
         form = (answer.shape, answer.end_sign, len(header), len(text), answer.counted)
         print("taken %d %02X %d %d %d" % form)
-        for name, data in (("header", header), ("text", text)):
-            if data:
-                print(with_letters(name, data))
+        block_of(answer)
     return answer
 
 
@@ -135,7 +168,8 @@ def damage(given):
 
 
 def frame(given):
-    answer = corridor.write_frame(given.method, bytes_of(given.bytes, given.text))
+    content, bits = content_of_frame(given.bytes, given.text)
+    answer = corridor.write_frame(given.method, content, bits)
     if answer:
         print("%d: %s" % (answer.bits, shown(answer.lent)))
     return answer
@@ -143,6 +177,9 @@ def frame(given):
 
 def read_frame(given):
     answer = corridor.read_frame(given.method, *frame_of(given.words))
+    if answer and answer.bits % 8:
+        print("content %d: %s" % (answer.bits, shown(answer.content)))
+        return answer
     return content_of("content", answer)
 
 
@@ -154,19 +191,51 @@ def number(given):
 
 
 def send(given):
+    link = (given.n, given.w)
     station, store = corridor.Station(), corridor.Store(given.w)
     for step in given.words:
         what, _, rest = step.partition(":")
         if what == "submit":
             block = bytes(map(one_byte, re.findall("..?", rest)))
-            answer = corridor.submit(given.n, given.w, station, store, block)
+            answer = corridor.submit(*link, station, store, block)
             said = answer and "number %d" % answer.number
-        elif what == "acknowledge" and rest.isdigit():
-            answer = corridor.acknowledge(given.n, given.w, station, store, int(rest))
+        elif what == "acknowledge":
+            answer = corridor.acknowledge(*link, station, store, whole(rest))
             said = answer and "%d freed" % answer.count
+        elif what == "order":
+            answer = corridor.order(*link, station, whole(rest))
+            said = answer and "from number %d on" % answer.number
+        elif what == "line":
+            answer = corridor.send(*link, station, store, whole(rest))
+            said = answer and shown(answer.line)
         else:
-            raise Unknown("neither submit:BYTES nor acknowledge:NUMBER: %r" % step)
-        print("%s: %s" % (step, said or "refused %d %d" % (answer.number, answer.value)))
+            raise Unknown("none of %s: %r" % (SENDING, step))
+        step_of(step, answer, said)
+
+
+def tell(given):
+    receiver, steps = corridor.Receiver(given.n, given.w), []
+    for word in words(given.words):
+        if ":" in word:
+            steps.append((word.rstrip(":"), []))
+        elif steps:
+            steps[-1][1].append(word)
+        else:
+            raise Unknown("none of %s: %r" % (RECEIVING, word))
+    for step, line in steps:
+        order = re.fullmatch("order:([0-9]+):([0-9]+)", step)
+        sent = re.fullmatch("line:([0-9]+)", step)
+        if order and not line:
+            answer = corridor.tell_order(receiver, int(order[1]), int(order[2]))
+            step_of(step, answer, "noted")
+        elif sent:
+            answer = corridor.tell_block(receiver, int(sent[1]), bytes(map(one_byte, line)))
+            told = answer and (ARRIVALS[answer.arrival], receiver.c)
+            step_of(step, answer, told and "%s, then %d is awaited" % told)
+            if answer and answer.block:
+                block_of(answer.block)
+        else:
+            raise Unknown("none of %s: %r" % (RECEIVING, step))
 
 
 def replay(given):
@@ -254,6 +323,10 @@ NUMBERS = (("n", int), ("w", int))
 PART = (("first", hexadecimal), ("first_length", int))
 PARTS = PART + (("second", hexadecimal), ("second_length", int))
 
+# The steps of the two stations.
+SENDING = "submit:BYTES, acknowledge:NUMBER, order:METHOD or line:NUMBER"
+RECEIVING = "order:NUMBER:METHOD or line:NUMBER: BYTE"
+
 # Each command: what it does, what is said of it, its arguments, and the words
 # behind them: BYTE takes bytes or, where TEXT is said, --text; otherwise words.
 BYTE = "BYTE"
@@ -270,12 +343,8 @@ COMMANDS = {
         [*NUMBERS, ("c", int), ("received", int)],
         None,
     ),
-    "send": (
-        send,
-        "the steps of a sending station",
-        NUMBERS,
-        "submit:BYTES or acknowledge:NUMBER",
-    ),
+    "send": (send, "the steps of a sending station", NUMBERS, SENDING),
+    "tell": (tell, "the steps of a receiving station", NUMBERS, RECEIVING),
     "replay": (
         replay,
         "replays a trace",
@@ -303,7 +372,8 @@ def parsed(name, arguments):
     for argument, kind in before:
         parser.add_argument(argument, type=kind)
     if behind in (BYTE, TEXT):
-        parser.add_argument("bytes", nargs="*", metavar=BYTE)
+        metavar = "BITS: or BYTE" if name == "frame" else BYTE
+        parser.add_argument("bytes", nargs="*", metavar=metavar)
     elif behind:
         parser.add_argument("words", nargs="*", metavar=behind)
     if behind == TEXT:

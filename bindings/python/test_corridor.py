@@ -18,8 +18,8 @@ from unittest import mock
 
 import corridor
 import corridor_commands
-from corridor import Content, Framed, Freed, Joined, Judged, Link, Refused, Submitted, Taken
-from corridor import Written
+from corridor import Content, FrameContent, Framed, Freed, Joined, Judged, Link, Noted
+from corridor import Ordered, Refused, Submitted, Taken, Told, Written
 
 HERE = Path(__file__).resolve().parent
 DIGITS = b"123456789"
@@ -63,13 +63,12 @@ def bytes_of(bits):
     return bytes(int(padded[i : i + 8][::-1], 2) for i in range(0, len(padded), 8))
 
 
-def divided(polynomial, ones, inverted, content):
-    """The check as bits: whole polynomials as whole numbers, divided."""
+def divided(polynomial, ones, inverted, sent):
+    """The check of bits, as bits: whole polynomials as whole numbers, divided."""
     width = polynomial.bit_length() - 1
-    count, sent = 8 * len(content), bits_of(content)
     dividend = int(sent or "0", 2) << width
     if ones:
-        dividend ^= ((1 << width) - 1) << count
+        dividend ^= ((1 << width) - 1) << len(sent)
     while dividend.bit_length() > width:
         dividend ^= polynomial << (dividend.bit_length() - width - 1)
     if inverted:
@@ -89,13 +88,13 @@ FIXED = {
 
 
 def checked(method, content):
-    return int.from_bytes(bytes_of(divided(*CHECKS[method], content)), "little")
+    check = divided(*CHECKS[method], bits_of(content))
+    return int.from_bytes(bytes_of(check), "little")
 
 
-def framed(method, content):
+def framed(method, sent):
     """Flag, stuffed bits, flag."""
-    check = divided(*CHECKS[method], content)
-    body = (bits_of(content) + check).replace("11111", "111110")
+    body = (sent + divided(*CHECKS[method], sent)).replace("11111", "111110")
     bits = "01111110" + body + "01111110"
     return Framed(len(bits), bytes_of(bits))
 
@@ -110,6 +109,12 @@ def matrix(start, counted):
     for byte in counted:
         check ^= byte
     return bytes(map(even, start + counted + bytes([check])))
+
+
+def clear_line(method, block):
+    """The line of a stored block."""
+    check = checked(method, block + b"\x03").to_bytes(2, "little")
+    return b"\x10\x02" + block.replace(b"\x10", b"\x10\x10") + b"\x10\x03" + check
 
 
 def drawn(seed, count, longest, bits=8):
@@ -219,9 +224,20 @@ class Frames(unittest.TestCase):
             for content in [b"\xff" * 40, b"\xf8\x1f" * 9, *drawn(method, 150, 60)]:
                 content += b"\x00"
                 written = corridor.write_frame(method, content)
-                self.assertEqual(written, framed(method, content))
+                self.assertEqual(written, framed(method, bits_of(content)))
                 read = corridor.read_frame(method, written.bits, written.lent)
-                self.assertEqual(read, Content(content))
+                self.assertEqual(read, FrameContent(8 * len(content), content))
+
+    def test_inside_a_byte(self):
+        """Of any number of bits; what stands behind them is ignored."""
+        for method in (corridor.FRAME_16, corridor.FRAME_32):
+            for content in [b"\xff" * 5, *drawn(method + 10, 30, 6)]:
+                for bits in range(1, 8 * len(content) + 1):
+                    sent = bits_of(content)[:bits]
+                    written = corridor.write_frame(method, content, bits)
+                    self.assertEqual(written, framed(method, sent))
+                    read = corridor.read_frame(method, written.bits, written.lent)
+                    self.assertEqual(read, FrameContent(bits, bytes_of(sent)))
 
     def test_refusals(self):
         sent = bits_of(corridor.write_frame(5, b"\xff").lent)[:42]
@@ -230,7 +246,8 @@ class Frames(unittest.TestCase):
             return corridor.read_frame(method, len(bits), bytes_of(bits), **more)
 
         flag = "01111110"
-        long = framed(5, bytes(corridor.LONGEST_CONTENT_16 + 1))
+        bits = corridor.LONGEST_CONTENT_16 + 1
+        long = framed(5, "0" * bits)
         refusals(
             self,
             [
@@ -238,14 +255,17 @@ class Frames(unittest.TestCase):
                 (corridor.read_frame(5, 49, bytes(6)), 31),
                 (read(sent[1:]), 32),
                 (read(sent[:13] + "1" + sent[14:]), 33, 13),
-                (read(flag + "0" * 25 + flag), 34),
                 (read(flag + "0" * 16 + flag), 35),
                 (corridor.read_frame(5, *vars(long).values()), 36),
                 (read(flag + "0" * 24 + flag), 37),
+                (read(flag + "0" * 25 + flag), 37),
                 (read(sent, room=0), 38, 1),
                 (corridor.write_frame(4, b"\xff"), 1),
+                (corridor.write_frame(5, b"\xff", 9), 66),
+                (corridor.write_frame(5, b"\xff", 2**64 - 1), 66),
                 (corridor.write_frame(5, b""), 21),
-                (corridor.write_frame(5, bytes(corridor.LONGEST_CONTENT_16 + 1)), 22),
+                (corridor.write_frame(5, b"\xff", 0), 21),
+                (corridor.write_frame(5, bytes(4097), bits), 22),
                 (corridor.write_frame(5, b"\xff", room=5), 23, 6),
             ],
         )
@@ -332,6 +352,135 @@ class Sender(unittest.TestCase):
         )
 
 
+class Orders(unittest.TestCase):
+    def test_a_history(self):
+        """Both stations of a link: lines of stored blocks come in any order,
+        some damaged, and each new one is taken as it was submitted. Beside it
+        a queue of the blocks that are kept, each with its method."""
+        source, n, w = random.Random(8), 3, 4
+        station, store, receiver = corridor.Station(), corridor.Store(w), corridor.Receiver(n, w)
+        kept, following, awaited = [], 0, 0
+        method, older, waits_for, met_there = 4, 0, None, collections.Counter()
+
+        def not_received(number):
+            return (number - awaited) % 2**n < (following - awaited) % 2**n
+
+        for block in drawn(9, 3000, 40):
+            step = source.random()
+            if step < 0.3 and len(kept) < w:
+                answer = corridor.submit(n, w, station, store, block)
+                self.assertEqual(answer, Submitted(following))
+                kept.append((following, block, method))
+                following = (following + 1) % 2**n
+            elif step < 0.4:
+                asked = source.choice((3, 4))
+                answer = corridor.order(n, w, station, asked)
+                self.assertEqual(answer, Refused(67) if older else Ordered(following))
+                if older:
+                    continue
+                told = corridor.tell_order(receiver, following, asked)
+                self.assertEqual(told, Noted())
+                method, older = asked, len(kept)
+                waits_for = following if following != awaited else None
+                met_there["order"] += 1
+            elif step < 0.9 and kept:
+                number, block, of = source.choice(kept)
+                line = clear_line(of, block)
+                self.assertEqual(corridor.send(n, w, station, store, number), Written(line))
+                damaged = source.random() < 0.2
+                if damaged:
+                    line = line[:-1] + bytes([line[-1] ^ 1 << source.randrange(8)])
+                told = corridor.tell_block(receiver, number, line)
+                if number != awaited:
+                    due = corridor.LOST if not_received(number) else corridor.REPEAT
+                    self.assertEqual(told, Told(due))
+                elif damaged:
+                    self.assertEqual(told, Refused(18))
+                else:
+                    taken = Taken(4, corridor.ETX, b"", block, len(block) + 1)
+                    self.assertEqual(told, Told(corridor.NEW, taken))
+                    awaited = (awaited + 1) % 2**n
+                    waits_for = None if waits_for == awaited else waits_for
+                    met_there[of] += 1
+            elif kept and not not_received(kept[0][0]):
+                freed = corridor.acknowledge(n, w, station, store, kept[0][0])
+                self.assertEqual(freed, Freed(1))
+                del kept[0]
+                older = max(older - 1, 0)
+            self.assertEqual((station.older, station.stored), (older, len(kept)))
+            self.assertEqual((receiver.c, receiver.waiting != 0), (awaited, waits_for is not None))
+        self.assertTrue(min(met_there[what] for what in (3, 4, "order")) > 30, met_there)
+
+    def test_ordering_refuses(self):
+        station, store = corridor.Station(), corridor.Store(2)
+        corridor.submit(3, 2, station, store, b"7B")
+        self.assertEqual(corridor.order(3, 2, station, 3), Ordered(1))
+        refusals(
+            self,
+            [
+                (corridor.order(3, 2, station, 2), 1),
+                (corridor.order(8, 2, station, 3), 41),
+                (corridor.order(3, 0, station, 3), 51),
+                (corridor.order(3, 2, corridor.Station(older=1), 3), 51),
+                (corridor.order(3, 2, station, 4), 67),
+            ],
+        )
+
+    def test_sending_refuses(self):
+        station, store = corridor.Station(), corridor.Store(2)
+        corridor.submit(3, 2, station, store, b"7B")
+        refusals(
+            self,
+            [
+                (corridor.send(0, 2, station, store, 0), 41),
+                (corridor.send(1, 2, station, store, 0), 51),
+                (corridor.send(3, 2, station, corridor.Store(1), 0), 6, 2 * corridor.CELL),
+                (corridor.send(3, 2, station, store, 1), 56),
+                (corridor.send(3, 2, station, store, 0, room=7), 6, 8),
+            ],
+        )
+
+    def test_telling_an_order_refuses(self):
+        waits = corridor.Receiver(3, 2, 0, 0, corridor.CYCLIC, 1)
+        refusals(
+            self,
+            [
+                (corridor.tell_order(corridor.Receiver(3, 2), 1, 5), 1),
+                (corridor.tell_order(corridor.Receiver(0, 2), 1, 3), 41),
+                (corridor.tell_order(corridor.Receiver(3, 8), 1, 3), 51),
+                (corridor.tell_order(corridor.Receiver(3, 2, 8), 1, 3), 42),
+                (corridor.tell_order(corridor.Receiver(3, 2), 8, 3), 43),
+                (corridor.tell_order(waits, 2, 3), 67),
+            ],
+        )
+
+    def test_telling_a_block_refuses(self):
+        def tell(line, *receiver, number=0, **more):
+            receiver = corridor.Receiver(*(receiver or (3, 2)))
+            return corridor.tell_block(receiver, number, line, **more)
+
+        line = clear_line(4, b"7B")
+        overlong = b"\x02" + b"A" * corridor.LONGEST_COUNT + b"\x03\x00\x00"
+        refusals(
+            self,
+            [
+                (tell(line, 8, 2), 41),
+                (tell(line, 3, 0), 51),
+                (tell(line, 3, 2, 8), 42),
+                (tell(line, number=8), 43),
+                (tell(bytes(corridor.LONGEST_LINE + 1)), 11),
+                (tell(b"7B"), 13),
+                (tell(b"\x10\x02\x10\x02"), 14, 2),
+                (tell(line[:4]), 15),
+                (tell(line[:-1]), 52, 6),
+                (tell(line + b"\x00"), 53, 6),
+                (tell(overlong), 17),
+                (tell(clear_line(3, b"7B")), 18),
+                (tell(line, room=1), 19, 2),
+            ],
+        )
+
+
 class Interleaving(unittest.TestCase):
     def test_there_and_back(self):
         for d in range(1, 12):
@@ -385,7 +534,7 @@ class FixedBlocks(unittest.TestCase):
         for degree, polynomial in FIXED.items():
             for content in drawn(degree, 60, 12):
                 content += b"1"
-                check = bytes_of(divided(polynomial, False, True, content))
+                check = bytes_of(divided(polynomial, False, True, bits_of(content)))
                 written = corridor.write_fixed(degree, content)
                 self.assertEqual(written, Written(content + check))
                 self.assertEqual(corridor.read_fixed(degree, written.line), Content(content))
@@ -432,7 +581,7 @@ class Checks(unittest.TestCase):
                         parts += [corridor.check(method, part), len(part)]
                     whole = Joined(corridor.check(method, content))
                     self.assertEqual(corridor.join(method, *parts), whole)
-            limit = corridor.LONGEST_CONTENT_32 if method == 6 else corridor.LONGEST_CONTENT_16
+            limit = 65536 if method == 6 else 4096
             self.assertEqual(corridor.join(method, 0, limit, 0, 0), Joined(0))
             refusals(self, [(corridor.join(method, 0, limit, 0, 1), 63)])
 
@@ -479,6 +628,7 @@ class Commands(unittest.TestCase):
             "read-fixed 8 31 4A": "content 31  1",
             "send 3 1 submit:37 submit:38 acknowledge:0": "submit:37: number 0\n"
             "submit:38: refused 55 0\nacknowledge:0: 1 freed",
+            "frame 5 7: FF": "41: 7E BF 78 FD F6 00",
             "refusal 37": "read_frame: is the check equal? Value: 0",
         }
         for line, printed in said.items():
@@ -488,10 +638,48 @@ class Commands(unittest.TestCase):
         replayed = self.typed("replay 3 2 submitted:5 acknowledged:0 received:0")
         self.assertTrue(replayed.startswith("1 is awaited, Station(next=1, stored=0"), replayed)
 
+    def test_frames_inside_a_byte(self):
+        line = self.typed("frame 6 9: 41 FF")
+        self.assertEqual(self.typed("read-frame 6", line), "content 9: 41 01")
+        self.assertEqual(self.typed("frame 6", "9: 41 01"), line)
+        self.assertIn("refused 66 0", self.typed("frame 6 9: 41", status=1))
+
+    def test_both_stations(self):
+        said = self.typed("send 3 2 submit:37 order:3 submit:38 order:4 line:0 line:1 line:2")
+        lines = [clear_line(*of).hex(" ").upper() for of in ((4, b"7"), (3, b"8"))]
+        self.assertEqual(
+            said.splitlines(),
+            [
+                "submit:37: number 0",
+                "order:3: from number 1 on",
+                "submit:38: number 1",
+                "order:4: refused 67 0",
+                "line:0: " + lines[0],
+                "line:1: " + lines[1],
+                "line:2: refused 56 0",
+            ],
+        )
+        steps = "order:1:3\n%s\n%s\n%s" % tuple(said.splitlines()[place] for place in (5, 4, 5))
+        self.assertEqual(
+            self.typed("tell 3 2", steps).splitlines(),
+            [
+                "order:1:3: noted",
+                "line:1: lost, then 0 is awaited",
+                "line:0: new, then 1 is awaited",
+                "text 37  7",
+                "line:1: new, then 2 is awaited",
+                "text 38  8",
+            ],
+        )
+        damaged = self.typed("damage 2.0", said.splitlines()[4])
+        self.assertEqual(self.typed("tell 3 2", damaged), "line:0: refused 18 0")
+
     def test_what_is_no_command(self):
         for line in ("", "reed 2e", "read 5e 00", "read 2e 8", "damage 9.0 00", "refusal 99"):
             self.typed(line, status=2)
-        self.typed("number 3 2 300 0", status=2)
+        for line in ("number 3 2 300 0", "tell 3 2 41", "tell 3 2 order:1", "tell 3 2 line:0:1"):
+            self.typed(line, status=2)
+        self.typed("send 3 2 order:x", status=2)
         self.assertIn("COMMAND", self.typed("--help"))
 
     def test_as_a_module(self):
@@ -504,6 +692,11 @@ class Numbering(unittest.TestCase):
     def test_as_above(self):
         tables = corridor.questions()
         self.assertEqual(tables["acknowledge"][41], tables["submit"][41])
+        self.assertEqual(tables["tell_block"][52], tables["read_block"][52])
+        self.assertEqual(tables["tell_block"][51], tables["tell_order"][51])
+        of_store, of_output = tables["submit"][6], tables["write_block"][6]
+        both = ("%s Or: %s" % (of_store[0], of_output[0]), of_store[1])
+        self.assertEqual(tables["send"][6], both)
         self.assertEqual(tables["join_4"], tables["join_6"])
         self.assertEqual(list(tables["receive"]), [41, 51, 42, 43])
 
