@@ -14,13 +14,14 @@ enum {
     PLAIN = CORRIDOR_LONGEST_PLAIN(2, 7),
     CLEAR = CORRIDOR_LONGEST_CLEAR(3),
     HEADER_CLEAR = CORRIDOR_LONGEST_HEADER_CLEAR(2, 3),
-    FRAME_16 = CORRIDOR_LONGEST_FRAME_16(2),
-    FRAME_32 = CORRIDOR_LONGEST_FRAME_32(2),
+    FRAME_16 = CORRIDOR_LONGEST_FRAME_16(16),
+    FRAME_32 = CORRIDOR_LONGEST_FRAME_32(16),
+    STORED = CORRIDOR_LONGEST_CLEAR(CORRIDOR_LONGEST_STORED),
     LONG = CORRIDOR_LONGEST_CONTENT_32 + 1,
     ROOM = CORRIDOR_FRAME_BYTES(CORRIDOR_LONGEST_FRAME_32(LONG))
 };
 
-static uint8_t input[LONG];
+static uint8_t input[CORRIDOR_FRAME_BYTES(LONG)];
 static uint8_t out[ROOM];
 static uint8_t store[2 * CORRIDOR_CELL];
 static size_t tried;
@@ -82,24 +83,34 @@ static void blocks(void)
     expect_length("header and text", value, PLAIN);
 }
 
+/* Writes a content of so many bits, and reads it back. */
+static void content(uint8_t method, size_t longest)
+{
+    static uint8_t back[sizeof input];
+    size_t bits;
+    size_t value;
+
+    expect("a content", corridor_write_frame(method, longest, input,
+           sizeof input, out, sizeof out, &bits), 0);
+    expect("its frame", corridor_read_frame(method, bits, out, sizeof out,
+           back, CORRIDOR_FRAME_BYTES(longest), &value), 0);
+    expect_length("its bits", value, longest);
+    expect("the same, longer", corridor_write_frame(method, longest + 1, input,
+           sizeof input, out, sizeof out, &bits), 22);
+}
+
 static void frames(void)
 {
     const uint8_t ones[] = {0xFF, 0xFF};
     size_t value;
 
-    expect("a content of method 5", corridor_write_frame(CORRIDOR_FRAME_16,
-           input, CORRIDOR_LONGEST_CONTENT_16, out, sizeof out, &value), 0);
-    expect("the same, longer", corridor_write_frame(CORRIDOR_FRAME_16, input,
-           CORRIDOR_LONGEST_CONTENT_16 + 1, out, sizeof out, &value), 22);
-    expect("a content of method 6", corridor_write_frame(CORRIDOR_FRAME_32,
-           input, CORRIDOR_LONGEST_CONTENT_32, out, sizeof out, &value), 0);
-    expect("the same, longer", corridor_write_frame(CORRIDOR_FRAME_32, input,
-           CORRIDOR_LONGEST_CONTENT_32 + 1, out, sizeof out, &value), 22);
-    expect("a frame of method 5", corridor_write_frame(CORRIDOR_FRAME_16, ones,
-           sizeof ones, out, CORRIDOR_FRAME_BYTES(FRAME_16), &value), 0);
+    content(CORRIDOR_FRAME_16, CORRIDOR_LONGEST_CONTENT_16);
+    content(CORRIDOR_FRAME_32, CORRIDOR_LONGEST_CONTENT_32);
+    expect("a frame of method 5", corridor_write_frame(CORRIDOR_FRAME_16, 16,
+           ones, sizeof ones, out, CORRIDOR_FRAME_BYTES(FRAME_16), &value), 0);
     expect_length("its bits", value, FRAME_16);
-    expect("a frame of method 6", corridor_write_frame(CORRIDOR_FRAME_32, ones,
-           sizeof ones, out, CORRIDOR_FRAME_BYTES(FRAME_32), &value), 0);
+    expect("a frame of method 6", corridor_write_frame(CORRIDOR_FRAME_32, 16,
+           ones, sizeof ones, out, CORRIDOR_FRAME_BYTES(FRAME_32), &value), 0);
 }
 
 static void fixed_block(uint8_t degree, size_t longest)
@@ -129,6 +140,37 @@ static void stations(void)
            sizeof store, input, CORRIDOR_LONGEST_STORED + 1, &value), 57);
 }
 
+/* The longest block that is stored, of DLE alone, is sent and received. */
+static void both_stations(void)
+{
+    const corridor_receiver fresh = {3, 2, 0, 0, 0, 0};
+    static uint8_t dle[CORRIDOR_LONGEST_STORED];
+    static uint8_t back[CORRIDOR_LONGEST_STORED];
+    corridor_receiver receiver = fresh;
+    corridor_station station;
+    size_t answer[6];
+    size_t value;
+
+    memset(dle, 0x10, sizeof dle);
+    memset(&station, 0, sizeof station);
+    expect("an order", corridor_order(3, 2, &station, CORRIDOR_CYCLIC,
+           &value), 0);
+    expect("told", corridor_tell_order(&receiver, (uint8_t)value,
+           CORRIDOR_CYCLIC), 0);
+    expect("a block of DLE", corridor_submit(3, 2, &station, store,
+           sizeof store, dle, sizeof dle, &value), 0);
+    expect("its line", corridor_send(3, 2, &station, store, sizeof store, 0,
+           out, STORED, &value), 0);
+    expect_length("its bytes", value, STORED);
+    expect("in less room", corridor_send(3, 2, &station, store, sizeof store,
+           0, out, STORED - 1, &value), 6);
+    expect("received", corridor_tell_block(&receiver, 0, out, STORED, back,
+           sizeof back, answer), 0);
+    expect_length("as new", answer[0], CORRIDOR_NEW);
+    expect_length("its text", answer[4], CORRIDOR_LONGEST_STORED);
+    expect("as it was", memcmp(dle, back, sizeof dle) != 0, 0);
+}
+
 static void traces(void)
 {
     corridor_station station;
@@ -154,6 +196,7 @@ int main(void)
     fixed_block(CORRIDOR_DEGREE_16, CORRIDOR_LONGEST_FIXED_16);
     fixed_block(CORRIDOR_DEGREE_24, CORRIDOR_LONGEST_FIXED_24);
     stations();
+    both_stations();
     traces();
     printf("limits: %zu answers, all as they should be: %s\n", tried,
            failures == 0 ? "yes" : "no");
