@@ -628,7 +628,6 @@ class Commands(unittest.TestCase):
             "read-fixed 8 31 4A": "content 31  1",
             "send 3 1 submit:37 submit:38 acknowledge:0": "submit:37: number 0\n"
             "submit:38: refused 55 0\nacknowledge:0: 1 freed",
-            "frame 5 7: FF": "41: 7E BF 78 FD F6 00",
             "refusal 37": "read_frame: is the check equal? Value: 0",
         }
         for line, printed in said.items():
@@ -639,6 +638,9 @@ class Commands(unittest.TestCase):
         self.assertTrue(replayed.startswith("1 is awaited, Station(next=1, stored=0"), replayed)
 
     def test_frames_inside_a_byte(self):
+        due = framed(5, "1111111")
+        line = "%d: %s" % (due.bits, due.lent.hex(" ").upper())
+        self.assertEqual(self.typed("frame 5 7: FF"), line)
         line = self.typed("frame 6 9: 41 FF")
         self.assertEqual(self.typed("read-frame 6", line), "content 9: 41 01")
         self.assertEqual(self.typed("frame 6", "9: 41 01"), line)
