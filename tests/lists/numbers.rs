@@ -134,19 +134,12 @@ fn tallied(name: &str) -> &str {
 /// Result and arguments of each call, as the wrapper and Python declare them;
 /// and a test of each in the wrapper's package.
 fn arguments(differences: &mut Differences, calls: &[Call]) {
-    let due: BTreeMap<_, _> = calls
+    let due = calls
         .iter()
         .map(|call| (call.name.clone(), call.types.clone()))
         .collect();
-    for (place, has) in [
-        (WRAPPER, lists::foreign(WRAPPER)),
-        (PYTHON, lists::python(PYTHON)),
-    ] {
-        let names: BTreeSet<_> = due.keys().chain(has.keys()).collect();
-        for name in names {
-            differences.compare(place, name, has.get(name), due.get(name));
-        }
-    }
+    declarations(differences, WRAPPER, lists::foreign(WRAPPER), &due);
+    declarations(differences, PYTHON, lists::python(PYTHON), &due);
     let tests = lists::text(WRAPPER_TESTS);
     for call in calls {
         let tested = tests.contains(&format!("#[test]\nfn {}() {{", call.name));
@@ -157,14 +150,20 @@ fn arguments(differences: &mut Differences, calls: &[Call]) {
 /// The fields of each record, in their order.
 fn records(differences: &mut Differences) {
     let due = records::header(HEADER);
-    for (place, has) in [
-        (WRAPPER, records::wrapper(WRAPPER)),
-        (PYTHON, records::python(PYTHON)),
-    ] {
-        let names: BTreeSet<_> = due.keys().chain(has.keys()).collect();
-        for name in names {
-            differences.compare(place, name, has.get(name), due.get(name));
-        }
+    declarations(differences, WRAPPER, records::wrapper(WRAPPER), &due);
+    declarations(differences, PYTHON, records::python(PYTHON), &due);
+}
+
+/// What a place declares, by name.
+fn declarations(
+    differences: &mut Differences,
+    place: &str,
+    has: BTreeMap<String, Vec<String>>,
+    due: &BTreeMap<String, Vec<String>>,
+) {
+    let names: BTreeSet<_> = due.keys().chain(has.keys()).collect();
+    for name in names {
+        differences.compare(place, name, has.get(name), due.get(name));
     }
 }
 
