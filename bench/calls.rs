@@ -240,7 +240,17 @@ impl Calls {
     ) -> u32 {
         let (length, line) = (line.len(), line.as_ptr());
         let (room, out) = (out.len(), out.as_mut_ptr());
-        unsafe { (self.tell_block)(receiver, number, line, length, out, room, answer.as_mut_ptr()) }
+        unsafe {
+            (self.tell_block)(
+                receiver,
+                number,
+                line,
+                length,
+                out,
+                room,
+                answer.as_mut_ptr(),
+            )
+        }
     }
 
     #[inline(always)]

@@ -16,7 +16,10 @@ pub fn questions(n: u8, w: u8, station: &Station, room: usize) -> Result<u8, Ref
         .fold(0, |most, length| most.max(*length));
     let kept = |byte: u8| [0, 3, 4].contains(&byte);
     let orders = station.older <= station.stored && kept(station.method) && kept(station.former);
-    ask(window && places && longest <= 4_095 && orders, Refusal::plain(51))?;
+    ask(
+        window && places && longest <= 4_095 && orders,
+        Refusal::plain(51),
+    )?;
     let needed = usize::from(w) * CELL;
     ask(needed <= room, Refusal::with(6, needed))?;
     Ok(modulus - 1)
