@@ -4,7 +4,7 @@ use Rattle.block.specs.declared.Block.{Block}
 use Rattle.block.specs.declared.ReadRefusal.{ReadRefusal}
 use Rattle.block.specs.declared.ReadRefusal.TheVariants as reading
 use Rattle.block.specs.Answers as block
-use Rattle.block.specs.Answers.{Numbers, read_number, read_value, of_read}
+use Rattle.block.specs.Answers.{Numbers, read_number, of_read}
 use Rattle.block.proofs.OneToOne.{of_read_injective}
 use Rattle.receiver.specs.declared.Receiver.{Receiver}
 use Rattle.receiver.specs.declared.ReceiverRefusal.{ReceiverRefusal}

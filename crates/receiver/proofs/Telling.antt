@@ -4,7 +4,7 @@ use borrow.Author.Tests.{lt-leb}
 use mathlib.Core.Bool.{and-false}
 use Rattle.bits.specs.Calls.{Call, called}
 use Rattle.number.specs.Number as number
-use Rattle.number.specs.Number.{Verdict, awaited_after, outcome, within, receiving, verdict_for}
+use Rattle.number.specs.Number.{Verdict, awaited_after, outcome, receiving, verdict_for}
 use Rattle.number.specs.Answers as numbers
 use Rattle.number.specs.declared.NumberRefusal.{NumberRefusal}
 use Rattle.number.specs.declared.NumberRefusal.TheVariants as refusal

@@ -132,9 +132,6 @@ module _ {n w : ℕ} {s : System} (z : Agrees n w s) where
       unfolding telling_block counted_length
       line_made = go (verdict_on s.receiver number) refl
         where
-          t-most : h.freed ≤ t
-          t-most = z.freed_taken
-
           judged_so : verdict_on s.receiver number ≡ judged w (difference (2 ^ n) (t % 2 ^ n) number)
           judged_so =
               ap (λ (r : Receiver). verdict_on r number) (z.follows)

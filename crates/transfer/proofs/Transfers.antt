@@ -15,9 +15,9 @@ use Rattle.block.specs.declared.EndSign.TheVariants.{Etx}
 use Rattle.block.specs.Signs.{koi7}
 use Rattle.block.specs.Write.{counted_length}
 use Rattle.block.specs.Read as reads
-use Rattle.block.specs.Read.{ReadAnswer, read_output, output_length}
+use Rattle.block.specs.Read.{read_output}
 use Rattle.block.specs.Answers as block
-use Rattle.block.specs.Answers.{Numbers, of_read_answer, shape_number, end_number}
+use Rattle.block.specs.Answers.{Numbers, shape_number, end_number}
 use Rattle.guarantees.specs.Second.{parts_written}
 use Rattle.guarantees.proofs.Second.{second_property}
 use Rattle.orders.specs.declared.CyclicMethod.{CyclicMethod}
