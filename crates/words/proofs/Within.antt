@@ -1,10 +1,25 @@
 -- Words within a content. Assumes nothing.
-use mathlib.Core.Path.{◌≡◌, refl, ap, ◌∙◌}
+use mathlib.Core.Path.{◌≡◌, refl, sym, ap, ◌∙◌}
 use Prim.Native.Nat.{ℕ, ◌+◌, ◌-◌, ◌*◌, ◌/◌, ◌≤◌, ◌<◌}
 use native.Mathlib.Omega.{arith}
 use mathlib.Core.Bool.{Bool, true, false, cond}
+use mathlib.Core.List.{List}
 use lib.Dec.{ltb}
-use Rattle.words.specs.Words.{words_before}
+use lib.ListN.{length, take, drop}
+use borrow.Author.Tests.{le-leb, lt-leb}
+use Rattle.bits.specs.Strings.{zeros}
+use Rattle.bits.specs.Bytes.{low_bits, bits_of}
+use Rattle.bits.proofs.Bytes.{low_bits-zero}
+use Rattle.words.specs.Words.{word_at, words_before}
+
+pub word-within : (content : List ℕ) (at : ℕ) → at + 8 ≤ length content → word_at content at ≡ bits_of (take 8 (drop at content))
+unfolding word_at
+word-within content at h = ap (λ t. cond t (bits_of (take 8 (drop at content))) (zeros 64)) (le-leb (at + 8) (length content) h)
+
+pub no_word : (content : List ℕ) (at : ℕ) → length content < at + 8 → low_bits 64 0 ≡ word_at content at
+unfolding word_at
+no_word content at h =
+    low_bits-zero 64 ∙ sym (ap (λ t. cond t (bits_of (take 8 (drop at content))) (zeros 64)) (lt-leb (at + 8) (length content) h))
 
 -- the words are whole, and where there are any the last bytes are left
 pub words_within : (size least last r : ℕ) → r ≡ words_before size least last → (8 * r ≤ size) × (0 < r → 8 * r + last ≤ size)
