@@ -73,6 +73,12 @@ next_byte p r bytes i below =
     ∙ ap (enter p r)
     (ap (λ z. bits_of (take i bytes) ++ z) (sym (bits_of_one b)) ∙ sym (bits_of-append (take i bytes) (b ∷ [])) ∙ ap bits_of (sym (take_more bytes i 0 below)))
 
+-- a content entered in two parts
+pub in_two : (p r : List Bool) (content : List ℕ) (k : ℕ) → enter p (enter p r (bits_of (take k content))) (bits_of (drop k content)) ≡ enter p r (bits_of content)
+in_two p r content k =
+    sym (enter-append p r (bits_of (take k content)) (bits_of (drop k content)))
+    ∙ ap (enter p r) (sym (bits_of-append (take k content) (drop k content)) ∙ ap bits_of (take-append-drop k content))
+
 -- ---- words folded away
 
 room-le : (reach n : ℕ) → room reach n ≤ 64 + 8 * reach
