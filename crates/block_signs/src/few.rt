@@ -1,9 +1,11 @@
-// Up to two bytes of a line: signs, or a check. A clause sees the list of them.
+// Up to two bytes of a line: signs, or a check. A clause sees the list of them. A place behind it holds 0, so that the list gives the
+// fields back, as `Copy` asks.
 ghost use Rattle.std.specs.Prelude.{◌≡◌, ℕ, ◌≤◌, List, [], ◌∷◌, length, take};
+ghost use Rattle.block_signs.specs.Signs.{in_two_places};
 
 use std::marker::Model;
 
-#[derive(Drop)]
+#[derive(Clone, Copy)]
 pub struct FewBytes {
     bytes: [u8; 2],
     count: usize,
@@ -14,7 +16,11 @@ impl Model for FewBytes {
 
     ghost view = { λ f. take f.count f.bytes };
 
-    ghost invariant = { λ f. f.count ≤ 2 };
+    ghost invariant = { λ f. (f.count ≤ 2) × (length (take f.count f.bytes) ≡ f.count) × (in_two_places (take f.count f.bytes) ≡ f.bytes) };
+
+    ghost inverse = { λ bs. record { bytes = in_two_places bs; count = length bs } };
+
+    ghost inverse_ok = { λ f h i. record { bytes = h.2 i; count = h.1 i } };
 }
 
 impl FewBytes {
