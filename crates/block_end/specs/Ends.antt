@@ -17,9 +17,15 @@ text_signs Text = 1
 text_signs Clear = 0
 text_signs ClearDle = 2
 
+-- the shape of a line with so many signs before its text, and its inner start at the place `inner`, 0 where it has none
+unfoldable pub shape_at : ℕ → ℕ → Shape
+shape_at signs inner =
+    cond (eqb signs 0) shape.Header
+    (cond (eqb inner 0) (cond (eqb signs 1) shape.Text shape.ClearText) (cond (eqb signs 1) shape.HeaderText shape.HeaderClearText))
+
 -- the shape of a line with so many signs before its text, and with an inner start or without
-unfoldable pub shape_at : ℕ → Bool → Shape
-shape_at signs has_inner =
+unfoldable pub shape_by : ℕ → Bool → Shape
+shape_by signs has_inner =
     cond (eqb signs 0) shape.Header
     (cond has_inner (cond (eqb signs 1) shape.HeaderText shape.HeaderClearText) (cond (eqb signs 1) shape.Text shape.ClearText))
 

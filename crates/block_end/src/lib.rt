@@ -7,7 +7,7 @@ ghost use Rattle.block.specs.Walk as rule;
 ghost use Rattle.block.specs.Signs.{table_of};
 ghost use Rattle.block.specs.Answers.{read_number, read_value};
 ghost use Rattle.block.specs.Scan.{first_failing};
-ghost use Rattle.block_end.specs.Ends.{text_signs, shape_at, is_fill};
+ghost use Rattle.block_end.specs.Ends.{text_signs, shape_at, shape_by, is_fill};
 
 use block::{Code, Field, ReadRefusal, Shape, character, syn};
 use runs::{ByteTest, short_run};
@@ -42,10 +42,18 @@ pub fn text_signs(f: Field) -> usize
     }
 }
 
+// The shape of a line with so many signs before its text, and its inner start at the place `inner`, 0 where it has none.
+#[tactic(auto, unfolding(crate::specs::Ends::shape_at, crate::specs::Ends::shape_by))]
+pub fn shape_at(signs: usize, inner: usize) -> Shape
+    ensures { result ≡ shape_at signs inner }
+{
+    shape_by(signs, inner != 0)
+}
+
 // The shape of a line with so many signs before its text, and with an inner start or without.
-#[tactic(auto, unfolding(crate::specs::Ends::shape_at))]
-pub fn shape_at(signs: usize, has_inner: bool) -> Shape
-    ensures { result ≡ shape_at signs has_inner }
+#[tactic(auto, unfolding(crate::specs::Ends::shape_by))]
+pub fn shape_by(signs: usize, has_inner: bool) -> Shape
+    ensures { result ≡ shape_by signs has_inner }
 {
     if signs == 0 {
         return Shape::Header;

@@ -20,7 +20,7 @@ use Rattle.block.specs.Signs.{CodeTable}
 use Rattle.block.specs.Walk.{ended, walk}
 use Rattle.block.specs.Marks.{is_header, sift}
 use Rattle.block.specs.Write.{is_clear}
-use Rattle.block_end.specs.Ends.{text_signs, shape_at}
+use Rattle.block_end.specs.Ends.{text_signs, shape_by}
 use Rattle.block.proofs.Walks.{marks-within}
 use Rattle.block_framing.specs.declared.FirstInnerStart.{FirstInnerStart}
 use Rattle.block_framing.specs.declared.LeftOuts.{LeftOuts}
@@ -165,7 +165,7 @@ module _ (table : CodeTable) (seven : Bool) (line : List ℕ) (ks : List Mark) (
     Behind = segments behind e T (length ks) (start_of table seven line + 1) T.inner (T.inner + text_signs f) (length ks - text_signs f)
 
     with_text : eqb (text_signs f) 0 ≡ false → F ≡ cond (eqb T.inner 0) Alone Behind
-        → shape_at (text_signs f) false ≡ alone → shape_at (text_signs f) true ≡ behind
+        → shape_by (text_signs f) false ≡ alone → shape_by (text_signs f) true ≡ behind
         → segments_at (start_of table seven line) (text_signs f) e L (length ks) ≡ F
     with_text p q r v = with_text_at (start_of table seven line) (text_signs f) e L (length ks) p ∙ go L.inner refl (inner_placed table seven f (start_of table seven line) line ks line_of)
       where
@@ -185,7 +185,7 @@ module _ (table : CodeTable) (seven : Bool) (line : List ℕ) (ks : List Mark) (
 
   without_text : text_signs f ≡ 0 → F ≡ segments shape.Header e T (length ks) (start_of table seven line + 1) (length ks - 1) (length ks - 1) (length ks - 1)
       → segments_at (start_of table seven line) (text_signs f) e L (length ks) ≡ F
-  unfolding segments_at shape_at
+  unfolding segments_at shape_by
   without_text p z =
       let x : T.text ≡ 0 = no_text (ap (λ g. g.body) z ∙ sym (ap (λ g. g.tail) z)) in
       let h : length ks - L.all - 1 ≡ T.header = omega (arith, parts, x, counted_is, ap (λ g. g.body) z, ap (λ g. g.inner) z) in
@@ -197,7 +197,7 @@ pub segments_framing : (table : CodeTable) (seven : Bool) (line : List ℕ) (ks 
     → walk table seven line 0 Start ≡ record { marks = ks; stop = ended f e }
     → segments_at (start_of table seven line) (text_signs f) e (leaves no_left_outs 0 ks) (length ks)
     ≡ framing_at (start_of table seven line) f e (tallied no_tally 0 ks) (length ks)
-unfolding framing_at shape_at
+unfolding framing_at shape_by
 segments_framing table seven line ks Start e w = without_text table seven line ks Start e w refl refl
 segments_framing table seven line ks StartDle e w = without_text table seven line ks StartDle e w refl refl
 segments_framing table seven line ks Header e w = without_text table seven line ks Header e w refl refl

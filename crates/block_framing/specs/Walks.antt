@@ -5,7 +5,7 @@ use Rattle.block.specs.declared.EndSign.{EndSign}
 use Rattle.block.specs.declared.Mark.{Mark}
 use Rattle.block.specs.declared.Mark.TheVariants.{LeftOut, HeaderByte, TextByte, InnerStart, End}
 use Rattle.block.specs.Walk.{Stop, ended, refused, Walked}
-use Rattle.block_end.specs.Ends.{text_signs, shape_at}
+use Rattle.block_end.specs.Ends.{text_signs, shape_by}
 use Rattle.block_framing.specs.declared.FirstInnerStart.{FirstInnerStart}
 use Rattle.block_framing.specs.declared.LeftOuts.{LeftOuts}
 use Rattle.block_framing.specs.declared.Segments.{Segments}
@@ -43,15 +43,15 @@ numbers h x n = record { inner = 0; header = h; text = x; counted = n }
 -- of them left out
 abbrev pub text_at : ℕ → ℕ → EndSign → Option FirstInnerStart → ℕ → ℕ → Segments
 text_at start signs e None all after =
-    segments (shape_at signs false) e (numbers 0 (after - all - 1) (after - all)) after (start + signs) (start + signs) (start + signs) (after - signs)
+    segments (shape_by signs false) e (numbers 0 (after - all - 1) (after - all)) after (start + signs) (start + signs) (start + signs) (after - signs)
 text_at start signs e (Some inner) all after =
-    segments (shape_at signs true) e (numbers (inner.at - inner.before) (after - all - (inner.at - inner.before + signs + 1)) (after - all)) after (start + 1) inner.at (inner.at + signs) (after - signs)
+    segments (shape_by signs true) e (numbers (inner.at - inner.before) (after - all - (inner.at - inner.before + signs + 1)) (after - all)) after (start + 1) inner.at (inner.at + signs) (after - signs)
 
 -- a line with its start at the place `start`, whose end sign stands behind `after` bytes
 unfoldable pub segments_at : ℕ → ℕ → EndSign → LeftOuts → ℕ → Segments
 segments_at start signs e t after =
     cond (eqb signs 0)
-    (segments (shape_at signs (is_some t.inner)) e (numbers (after - t.all - 1) 0 (after - t.all)) after (start + 1) (after - 1) (after - 1) (after - 1))
+    (segments (shape_by signs (is_some t.inner)) e (numbers (after - t.all - 1) 0 (after - t.all)) after (start + 1) (after - 1) (after - 1) (after - 1))
     (text_at start signs e t.inner t.all after)
 
 abbrev pub stopped : ℕ → LeftOuts → ℕ → Stop → WalkAnswer

@@ -5,7 +5,7 @@ ghost use Rattle.block_framing.specs.Walks as walks;
 
 use crate::{FirstInnerStart, LeftOuts, Segments};
 use block::EndSign;
-use block_end::shape_at;
+use block_end::shape_by;
 
 // Where the walk ended: the place of the line's start, how many signs stand before its text, its end sign, and how many bytes it
 // has with it.
@@ -29,7 +29,7 @@ impl Ending {
         let counted = after.saturating_sub(t.all);
         let last = after.saturating_sub(1);
         Segments {
-            shape: shape_at(0, t.inner.is_some()),
+            shape: shape_by(0, t.inner.is_some()),
             end: self.end,
             head: self.start + 1,
             inner: last,
@@ -50,7 +50,7 @@ impl Ending {
         let counted = after.saturating_sub(all);
         let body = self.start + self.signs;
         Segments {
-            shape: shape_at(self.signs, false),
+            shape: shape_by(self.signs, false),
             end: self.end,
             head: body,
             inner: body,
@@ -73,7 +73,7 @@ impl Ending {
         let counted = after.saturating_sub(all);
         let header = inner.at.saturating_sub(inner.before);
         Segments {
-            shape: shape_at(signs, true),
+            shape: shape_by(signs, true),
             end: self.end,
             head: self.start + 1,
             inner: inner.at,
