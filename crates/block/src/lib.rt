@@ -163,5 +163,6 @@ pub use check::{check_length, sum_slice};
 pub use limits::{COUNTED_LIMIT, LINE_LIMIT};
 pub use shapes::is_clear;
 pub use signs::{
-    DLE, ETB, ETX, SOH, STX, SYN, US, carries, character, end_byte, in_koi7, is_seven, syn,
+    DLE, ETB, ETX, GREATEST_SIGN, SOH, STX, SYN, US, carries, character, end_byte, in_koi7,
+    is_seven, syn,
 };

@@ -6,7 +6,7 @@ ghost use Rattle.block_scan.specs.Tests.{is_plain_byte};
 
 use crate::dkoi::dkoi_run;
 use crate::off::{is_no_sign, off_signs};
-use block::{Code, US, character};
+use block::{Code, GREATEST_SIGN, character};
 use runs::{ByteTest, run};
 
 // In header and plain text of KOI-7 data is what is no sign; where `low`, only below 80.
@@ -17,14 +17,13 @@ struct PlainByte {
 }
 
 impl PlainByte {
-    // Whether the 16 characters are above every sign, of which US is the greatest, as those of a text mostly are. The compiler compares
-    // all 16 at once.
+    // Whether the 16 characters are above every sign, as those of a text mostly are. The compiler compares all 16 at once.
     fn all_above(self, sixteen: &[u8; 16]) -> bool
         ensures { result ≡ true → AllPass (is_plain_byte koi7 self.seven self.low) sixteen.now 0 16 }
     {
         let mut all = true;
         for b in sixteen {
-            all = all & ((character(self.seven, *b) > US) & (!self.low | (*b < 0x80)));
+            all = all & ((character(self.seven, *b) > GREATEST_SIGN) & (!self.low | (*b < 0x80)));
         }
         all
     }
