@@ -47,4 +47,4 @@ pub enum ReadRefusal {
 
 mod numbers;
 
-pub use numbers::{FLAG, check_width, limit_bits};
+pub use numbers::{FLAG, check_width, limit, limit_bits};

@@ -8,8 +8,18 @@ use cyclic6::Cyclic6;
 
 pub const FLAG: u8 = 0x7E;
 
-// The bits of content at most: the limit of the method's type is in bytes. This, the width below and the residue of frame_framing
-// each name one constant of the method's type; a function from a method to the type itself would take a struct of all its constants.
+// The bytes of content at most. This, the two below and the residue of frame_framing each name one constant of the method's type; a
+// function from a method to the type itself would take a struct of all its constants.
+pub fn limit(m: FrameMethod) -> usize
+    ensures { result ≡ (parameters_of m).limit }
+{
+    match m {
+        FrameMethod::Cyclic16 => Cyclic5::LIMIT,
+        FrameMethod::Cyclic32 => Cyclic6::LIMIT,
+    }
+}
+
+// The bits of content at most: the limit of the method's type is in bytes.
 pub fn limit_bits(m: FrameMethod) -> usize
     ensures { result ≡ limit_bits (parameters_of m) }
 {
