@@ -21,7 +21,7 @@ pub const SYN: u8 = 0x16;
 
 pub const ETB: u8 = 0x17;
 
-// What is above it is no sign in KOI-7: so is most of a text. In DKOI it is not the greatest: SYN is 32.
+// No byte above it is a sign of KOI-7, and most of a text is above it. Of DKOI it is not the greatest: SYN is 32 there.
 pub const GREATEST_SIGN: u8 = US;
 
 const DKOI_SYN: u8 = 0x32;

@@ -42,14 +42,6 @@ pub fn text_signs(f: Field) -> usize
     }
 }
 
-// The shape of a line with so many signs before its text, and its inner start at the place `inner`, 0 where it has none.
-#[tactic(auto, unfolding(crate::specs::Ends::shape_at, crate::specs::Ends::shape_by))]
-pub fn shape_at(signs: usize, inner: usize) -> Shape
-    ensures { result ≡ shape_at signs inner }
-{
-    shape_by(signs, inner != 0)
-}
-
 // The shape of a line with so many signs before its text, and with an inner start or without.
 #[tactic(auto, unfolding(crate::specs::Ends::shape_by))]
 pub fn shape_by(signs: usize, has_inner: bool) -> Shape
@@ -71,6 +63,14 @@ pub fn shape_by(signs: usize, has_inner: bool) -> Shape
             Shape::ClearText
         }
     }
+}
+
+// The same of its inner start's place, 0 where it has none.
+#[tactic(auto, unfolding(crate::specs::Ends::shape_at, crate::specs::Ends::shape_by))]
+pub fn shape_at(signs: usize, inner: usize) -> Shape
+    ensures { result ≡ shape_at signs inner }
+{
+    shape_by(signs, inner != 0)
 }
 
 #[derive(Clone, Copy)]

@@ -65,19 +65,15 @@ nothing_left ws m h = ap (λ x. added x m) (ap word_bits (all-zero ws h) ∙ zer
 
 -- ---- bytes entered
 
+pub bytes_behind : (p r : List Bool) (before bytes : List ℕ) → enter p (enter p r (bits_of before)) (bits_of bytes) ≡ enter p r (bits_of (before ++ bytes))
+bytes_behind p r before bytes = sym (enter-append p r (bits_of before) (bits_of bytes)) ∙ ap (enter p r) (sym (bits_of-append before bytes))
+
 pub next_byte : (p r : List Bool) (bytes : List ℕ) (i : ℕ) → i < length bytes
     → enter p (enter p r (bits_of (take i bytes))) (low_bits 8 (get_or bytes i 0)) ≡ enter p r (bits_of (take (i + 1) bytes))
 next_byte p r bytes i below =
     let b = get_or bytes i 0 in
-    sym (enter-append p r (bits_of (take i bytes)) (low_bits 8 b))
-    ∙ ap (enter p r)
-    (ap (λ z. bits_of (take i bytes) ++ z) (sym (bits_of_one b)) ∙ sym (bits_of-append (take i bytes) (b ∷ [])) ∙ ap bits_of (sym (take_more bytes i 0 below)))
-
--- a content entered in two parts
-pub in_two : (p r : List Bool) (content : List ℕ) (k : ℕ) → enter p (enter p r (bits_of (take k content))) (bits_of (drop k content)) ≡ enter p r (bits_of content)
-in_two p r content k =
-    sym (enter-append p r (bits_of (take k content)) (bits_of (drop k content)))
-    ∙ ap (enter p r) (sym (bits_of-append (take k content) (drop k content)) ∙ ap bits_of (take-append-drop k content))
+    ap (enter p (enter p r (bits_of (take i bytes)))) (sym (bits_of_one b)) ∙ bytes_behind p r (take i bytes) (b ∷ [])
+    ∙ ap (λ s. enter p r (bits_of s)) (sym (take_more bytes i 0 below))
 
 -- ---- words folded away
 

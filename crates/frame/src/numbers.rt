@@ -8,8 +8,9 @@ use cyclic6::Cyclic6;
 
 pub const FLAG: u8 = 0x7E;
 
-// The bytes of content at most. This, the two below and the residue of frame_framing each name one constant of the method's type; a
-// function from a method to the type itself would take a struct of all its constants.
+// The bytes of content at most. The three functions here and the residue of frame_framing each name one constant of the method's type;
+// a function from a method to the type itself would take a struct of all its constants.
+#[tactic(auto, unfolding(cyclic::specs::Check::method5, cyclic::specs::Check::method6))]
 pub fn limit(m: FrameMethod) -> usize
     ensures { result ≡ (parameters_of m).limit }
 {
